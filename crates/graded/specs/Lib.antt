@@ -1,0 +1,4 @@
+pub mod Roles
+pub mod Steps
+pub mod Figure
+pub mod Facts

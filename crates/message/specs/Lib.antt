@@ -1,0 +1,4 @@
+pub mod Count
+pub mod Members
+pub mod Tally
+pub mod Table

@@ -1,0 +1,6 @@
+pub mod Protocol
+pub mod Play
+pub mod Cost
+pub mod Discipline
+pub mod Grading
+pub mod Existence
