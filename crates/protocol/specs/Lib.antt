@@ -4,3 +4,5 @@ pub mod Cost
 pub mod Discipline
 pub mod Grading
 pub mod Existence
+pub mod Agreement
+pub mod Lawful
