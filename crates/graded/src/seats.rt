@@ -77,7 +77,8 @@ impl Seat {
         }
     }
 
-    // What it keeps after a round in which this arrived: what seat i said under topic t is expected at t * seats + i.
+    // What it keeps after a round in which this arrived: what seat i said under topic t is expected at t * seats + i. Whoever calls this
+    // has left out what has no form.
     pub fn hear(self, round: u32, inbox: &[Option<Message>]) -> Seat
         requires { ⌜ self .seats ≤ most-parties ⌝ }
         ensures is { λ r. ⌜ r ≡ heard self round (now (inbox .entry)) ⌝ }
