@@ -11,7 +11,7 @@ use message::Signers;
 pub const LIAR: u32 = 4;
 
 // What the liar says to a peer in a role, if anything. It cannot sign for anybody else.
-pub fn lie(role: Role, peer: &Seat) -> Option<Message>
+pub(crate) fn lie(role: Role, peer: &Seat) -> Option<Message>
     ensures { λ r. ⌜ r ≡ word liar (told role (now (peer .entry))) ⌝ }
 {
     match day_told(role, peer) {

@@ -35,7 +35,7 @@ impl Party {
     }
 
     // What it says to all in a role, if anything.
-    pub fn says(&self, role: Role) -> Option<Message>
+    pub(crate) fn says(&self, role: Role) -> Option<Message>
         ensures { λ r. ⌜ r ≡ said-as (now (self .entry) .seat) role ⌝ }
     {
         self.seat.says(role)
@@ -51,7 +51,7 @@ impl Party {
 }
 
 // The honest parties before the first round.
-pub fn enter() -> [Party; 4] {
+pub(crate) fn enter() -> [Party; 4] {
     [
         Party::enter(0, INPUTS[0]),
         Party::enter(1, INPUTS[1]),
@@ -61,7 +61,7 @@ pub fn enter() -> [Party; 4] {
 }
 
 // The honest parties after a round.
-pub fn hear(honest: [Party; 4], round: u32) -> [Party; 4] {
+pub(crate) fn hear(honest: [Party; 4], round: u32) -> [Party; 4] {
     let mut after = honest;
     for party in after.iter_mut() {
         *party = party.hear(round, &inbox(&honest, round, &party.seat));

@@ -47,7 +47,7 @@ fn name(role: Role) -> &'static str {
     }
 }
 
-pub fn opening(rt: &LibcRuntime) -> io::Result<()> {
+pub(crate) fn opening(rt: &LibcRuntime) -> io::Result<()> {
     let [a, b, c, d] = INPUTS;
     let enough = quorum(PARTIES);
     println!(
@@ -58,7 +58,7 @@ pub fn opening(rt: &LibcRuntime) -> io::Result<()> {
 }
 
 // What everybody says in a round.
-pub fn speech(rt: &LibcRuntime, round: u32, honest: &[Party; 4]) -> io::Result<()> {
+pub(crate) fn speech(rt: &LibcRuntime, round: u32, honest: &[Party; 4]) -> io::Result<()> {
     println!(rt, "round {round}")?;
     for topic in 0..2 {
         if let Some(role) = Role::at(round, topic) {
@@ -92,7 +92,7 @@ fn lies(rt: &LibcRuntime, role: Role, honest: &[Party; 4]) -> io::Result<()> {
 }
 
 // What each honest party believes after a round, and at the end leaves with.
-pub fn beliefs(rt: &LibcRuntime, round: u32, honest: &[Party; 4]) -> io::Result<()>
+pub(crate) fn beliefs(rt: &LibcRuntime, round: u32, honest: &[Party; 4]) -> io::Result<()>
     requires { ⌜ round ≤ 4 ⌝ }
 {
     let next = Role::at(round + 1, 0);

@@ -17,13 +17,15 @@ use Rattle.message.specs.Members.{member, Holds, quorum, gathered}
 use Rattle.message.specs.Tally.{before, slot-day, names, entry, tally, reaching, Lowest-reaching}
 use Rattle.message.proofs.Masks.{same-set, none-above, gathered-below, member-gathered}
 use Rattle.protocol.specs.Protocol.{Inbox}
+use Rattle.protocol.specs.Inboxes.{under, days}
+use Rattle.protocol.proofs.Reading.{few-entries}
 use Rattle.graded.specs.declared.seats.Seat.{Seat}
 use Rattle.graded.specs.declared.table.Role.{Role}
 use Rattle.graded.specs.Roles.{role-at}
-use Rattle.graded.specs.Steps.{under, days, word, who-named, certificate, unless-disputed, start, says-at, send, outcome}
+use Rattle.graded.specs.Steps.{word, who-named, certificate, unless-disputed, start, says-at, send, outcome}
 use Rattle.graded.specs.Figure.{Signed-alone, Certified, Figure-2, Follows-figure-2, after-4}
 use Rattle.message.proofs.Tallying.{reaching-means, reaching-has, reaching-only}
-use Rattle.graded.proofs.Reading.{few-entries, signed-is, is-signed, certificate-day}
+use Rattle.graded.proofs.Reading.{signed-is, is-signed, certificate-day}
 use Rattle.graded.proofs.Grades.{undisputed-is, is-undisputed}
 
 -- a certificate is shown exactly of what a quorum named, by those who named it

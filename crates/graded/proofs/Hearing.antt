@@ -15,11 +15,14 @@ use Rattle.message.specs.Tally.{slot-day, entry, reaching}
 use Rattle.protocol.specs.declared.Form.the-variants.{Listed}
 use Rattle.protocol.specs.Protocol.{Protocol, arrived}
 use Rattle.protocol.specs.Play.{Trace, state, says, hears, form-of, Said, Possible, Play, Ends-honest, Fewer-than-one-in}
+use Rattle.protocol.specs.Inboxes.{under, days}
 use Rattle.protocol.specs.Grading.{Graded, day-of, grade-of}
+use Rattle.protocol.proofs.Reading.{entry-of, all-entries, slot-names}
+use Rattle.protocol.proofs.Arriving.{was-honest}
 use Rattle.graded.specs.declared.seats.Seat.{Seat}
 use Rattle.graded.specs.Roles.{kind, form, certificate-form}
-use Rattle.graded.specs.Steps.{under, days, word, certificate, unless-disputed, four-rounds}
-use Rattle.graded.proofs.Reading.{entry-of, all-entries, slot-names, signed-day, signed-is, certificate-day, formed-certificate}
+use Rattle.graded.specs.Steps.{word, certificate, unless-disputed, four-rounds}
+use Rattle.graded.proofs.Reading.{signed-day, signed-is, certificate-day, formed-certificate}
 use Rattle.graded.proofs.Grades.{Hearing, voted, outside, one-of-them, consistent, valid}
 
 abbrev pub P : Protocol Seat
@@ -121,22 +124,14 @@ module _ (k : ℕ) (tr : Trace) where
       go (suc (suc (suc (suc b)))) t m h was listed about on = absurd (omega arith)
 
   module _ (play : Play P k tr) where
-    -- who is honest now was honest before
-    pub was-honest : (r i : ℕ) → r < 4 → i < k → tr .corrupt (suc r) i ≡ false → tr .corrupt r i ≡ false
-    was-honest r i hr hi e = go (cases-bool (tr .corrupt r i))
-      where
-        go : (tr .corrupt r i ≡ true) ⊎ (tr .corrupt r i ≡ false) → tr .corrupt r i ≡ false
-        go (inl bad) = absurd (both-ways (tr .corrupt (suc r) i) e (play .stays r i hr hi bad))
-        go (inr good) = good
-
     honest-3 : (i : ℕ) → i < k → F i ≡ false → tr .corrupt 3 i ≡ false
-    honest-3 i hi e = was-honest 3 i (omega arith) hi e
+    honest-3 i hi e = was-honest P k tr play 3 i (omega arith) hi e
 
     honest-2 : (i : ℕ) → i < k → F i ≡ false → tr .corrupt 2 i ≡ false
-    honest-2 i hi e = was-honest 2 i (omega arith) hi (honest-3 i hi e)
+    honest-2 i hi e = was-honest P k tr play 2 i (omega arith) hi (honest-3 i hi e)
 
     honest-1 : (i : ℕ) → i < k → F i ≡ false → tr .corrupt 1 i ≡ false
-    honest-1 i hi e = was-honest 1 i (omega arith) hi (honest-2 i hi e)
+    honest-1 i hi e = was-honest P k tr play 1 i (omega arith) hi (honest-2 i hi e)
 
     -- what seat i reads from a seat j that is honest when the round closes
     reads : (r t i j : ℕ) → r < 4 → t < 2 → i < k → j < k → tr .corrupt (suc r) j ≡ false
@@ -173,7 +168,7 @@ module _ (k : ℕ) (tr : Trace) where
           go : (tr .corrupt 2 j ≡ true) ⊎ (tr .corrupt 2 j ≡ false) → (s : ℕ) × (s < k) × (F s ≡ false) × (tr .input s ≡ v)
           go (inr good) =
               let its = sym (reads 1 0 i j (omega arith) (omega arith) hi hj good ∙ shown-said j) ∙ e in
-              let one = one-of-them k F few (echoes j) (all-entries k 0 (tr .inbox 1 j) (play .whole 0 j (omega arith) hj) (omega arith)) v its in
+              let one = one-of-them k F few (echoes j) (all-entries 2 k 0 (tr .inbox 1 j) (play .whole 0 j (omega arith) hj) (omega arith)) v its in
               let meant = echo-of j (one .0) hj (one .1) (one .3) in
               let same = one .2 in
               (one .0, one .1, one .3, cc)
@@ -191,7 +186,7 @@ module _ (k : ℕ) (tr : Trace) where
           go : (tr .corrupt 4 j ≡ true) ⊎ (tr .corrupt 4 j ≡ false) → (s : ℕ) × (s < k) × (F s ≡ false) × (vote s ≡ Some v)
           go (inr good) =
               let its = sym (reads 3 0 i j (omega arith) (omega arith) hi hj good ∙ proof-said j) ∙ e in
-              let one = one-of-them k F few (votes j) (all-entries k 0 (tr .inbox 3 j) (play .whole 2 j (omega arith) hj) (omega arith)) v its in
+              let one = one-of-them k F few (votes j) (all-entries 2 k 0 (tr .inbox 3 j) (play .whole 2 j (omega arith) hj) (omega arith)) v its in
               (one .0, one .1, one .3, sym (vote-of j (one .0) hj (one .1) (one .3)) ∙ one .2)
           go (inl bad) =
               let one = forged-by-none 3 i j v 1 (omega arith) hi hj bad (λ _. refl) refl e in
@@ -203,11 +198,11 @@ module _ (k : ℕ) (tr : Trace) where
 
       hearing : Hearing k F (tr .input) echoes shown votes proofs again
       hearing = record {
-        echoes-whole = λ i hi. all-entries k 0 (tr .inbox 1 i) (play .whole 0 i (omega arith) hi) (omega arith);
-        shown-whole = λ i hi. all-entries k 0 (tr .inbox 2 i) (play .whole 1 i (omega arith) hi) (omega arith);
-        votes-whole = λ i hi. all-entries k 0 (tr .inbox 3 i) (play .whole 2 i (omega arith) hi) (omega arith);
-        proofs-whole = λ i hi. all-entries k 0 (tr .inbox 4 i) (play .whole 3 i (omega arith) hi) (omega arith);
-        again-whole = λ i hi. all-entries k 1 (tr .inbox 4 i) (play .whole 3 i (omega arith) hi) (omega arith);
+        echoes-whole = λ i hi. all-entries 2 k 0 (tr .inbox 1 i) (play .whole 0 i (omega arith) hi) (omega arith);
+        shown-whole = λ i hi. all-entries 2 k 0 (tr .inbox 2 i) (play .whole 1 i (omega arith) hi) (omega arith);
+        votes-whole = λ i hi. all-entries 2 k 0 (tr .inbox 3 i) (play .whole 2 i (omega arith) hi) (omega arith);
+        proofs-whole = λ i hi. all-entries 2 k 0 (tr .inbox 4 i) (play .whole 3 i (omega arith) hi) (omega arith);
+        again-whole = λ i hi. all-entries 2 k 1 (tr .inbox 4 i) (play .whole 3 i (omega arith) hi) (omega arith);
         echo-of = echo-of;
         shown-of = λ i j hi hj e. reads 1 0 i j (omega arith) (omega arith) hi hj (honest-2 j hj e) ∙ shown-said j;
         vote-of = vote-of;

@@ -15,16 +15,19 @@ use Rattle.message.specs.Members.{quorum}
 use Rattle.message.specs.Tally.{Day, slot-day, entry, reaching}
 use Rattle.protocol.specs.Protocol.{Inbox}
 use Rattle.protocol.specs.Play.{Trace, state, says, hears, Sends, Play}
+use Rattle.protocol.specs.Inboxes.{under, days}
 use Rattle.protocol.specs.Grading.{Leaves-with-days}
+use Rattle.protocol.proofs.Reading.{entry-of, few-entries, slot-names}
+use Rattle.protocol.proofs.Arriving.{was-honest}
 use Rattle.graded.specs.declared.seats.Seat.{Seat}
 use Rattle.graded.specs.declared.table.Role.{Role}
 use Rattle.graded.specs.declared.table.Role.the-variants.{Echo, EchoCertificate, Vote, VoteCertificate, SecondVote}
 use Rattle.graded.specs.Roles.{role-at}
-use Rattle.graded.specs.Steps.{under, days, signed-by, certificate, unless-disputed, start, says-at, send, hear, four-rounds}
+use Rattle.graded.specs.Steps.{signed-by, certificate, unless-disputed, start, says-at, send, hear, four-rounds}
 use Rattle.message.proofs.Tallying.{reaching-named}
-use Rattle.graded.proofs.Reading.{entry-of, few-entries, slot-names, certificate-day}
+use Rattle.graded.proofs.Reading.{certificate-day}
 use Rattle.graded.proofs.Grades.{undisputed-is}
-use Rattle.graded.proofs.Hearing.{P, was-honest}
+use Rattle.graded.proofs.Hearing.{P}
 
 -- whatever is named is a day
 abbrev Named-days : List (Option ℕ) → Type 0
@@ -138,7 +141,7 @@ module _ (k : ℕ) (tr : Trace) where
             subst Day (read .2) (can .a-day)
         from hj (inr good) =
             let said = sym (entry-of k t (tr .inbox (suc r) i) j hj ∙ ap slot-day (play .from-honest r t j i hr ht hj hi good)) ∙ e in
-            says-days (state P k tr r j) (role-at (suc r) t) (kept j hj (was-honest k tr play r j hr hj good)) u said
+            says-days (state P k tr r j) (role-at (suc r) t) (kept j hj (was-honest P k tr play r j hr hj good)) u said
 
         side : (j < k) ⊎ (k ≤ j) → Day u
         side (inl hj) = from hj (cases-bool (tr .corrupt (suc r) j))
@@ -150,7 +153,7 @@ module _ (k : ℕ) (tr : Trace) where
     on-days zero hr i hi good = begins i (play .days i hi good)
     on-days (suc r) hr i hi good =
         goes-on r i
-        (hears-days (state P k tr r i) (suc r) (tr .inbox (suc r) i) (on-days r (omega arith) i hi (was-honest k tr play r i hr hi good))
+        (hears-days (state P k tr r i) (suc r) (tr .inbox (suc r) i) (on-days r (omega arith) i hi (was-honest P k tr play r i hr hi good))
         (λ t ht. subst (λ n. Named-days (days (under n t (tr .inbox (suc r) i)))) (sym (has-seats r i)) (arrives r hr (on-days r (omega arith)) t i ht hi)))
 
     -- what an honest seat sends is on a day

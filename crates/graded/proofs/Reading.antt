@@ -1,81 +1,25 @@
--- How inboxes are read, and what words and certificates say.
+-- What words and certificates say, and what form they have.
 use mathlib.Core.Path.{_≡_, refl, sym, _∙_, ap, subst}
 use mathlib.Core.Bool.{Bool, true, false, cond, _&&_}
-use mathlib.Core.List.{List, [], map}
+use mathlib.Core.List.{List}
 use mathlib.Core.Logic.{_⊎_, inl, inr}
-use Prim.Native.Nat.{ℕ, zero, suc, _+_, _-_, _*_, _^_, _≤_, _<_, min}
+use Prim.Native.Nat.{ℕ, _^_, _≤_, _<_}
 use native.Mathlib.Omega.{arith}
 use lib.Dec.{eqb, leb, ltb}
-use lib.ListN.{length, getD, take, drop, length-take, length-drop}
+use lib.ListN.{length}
 use Rattle.std.specs.declared.option.Option.{Option}
 use Rattle.std.specs.declared.option.Option.the-variants.{Some, None}
-use Rattle.std.proofs.shelf.Lists.{getD-map, getD-past, getD-take, getD-drop, length-map, take-all, drop-all}
-use Rattle.std.proofs.shelf.Tests.{cases-bool, cases-lt, both-ways, eq-eqb, eqb-true, leb-true, le-leb, ltb-true, lt-ltb, and-parts, and-from, cond-true}
+use Rattle.std.proofs.shelf.Lists.{length-map}
+use Rattle.std.proofs.shelf.Tests.{cases-bool, eq-eqb, eqb-true, leb-true, le-leb, ltb-true, lt-ltb, and-parts, and-from, cond-true}
 use Rattle.message.specs.declared.Message.{Message}
-use Rattle.message.specs.Members.{member, size, quorum, gathered}
+use Rattle.message.specs.Members.{size, quorum, gathered}
 use Rattle.message.specs.Tally.{slot-day, names, entry, reaching}
 use Rattle.protocol.specs.declared.Form.{Form}
 use Rattle.protocol.specs.declared.Form.the-variants.{Listed, Certificate}
-use Rattle.protocol.specs.Protocol.{Inbox, arrived}
+use Rattle.protocol.specs.Protocol.{Inbox}
+use Rattle.protocol.specs.Inboxes.{days}
 use Rattle.graded.specs.Roles.{word-form, certificate-form}
-use Rattle.graded.specs.Steps.{under, days, signed-by, word, who-named, certificate}
-
--- the day in a slot is the day of the slot
-day-at : (slots : Inbox) (j : ℕ) → entry (days slots) j ≡ slot-day (getD slots j None)
-day-at slots j = go (cases-lt j (length slots))
-  where
-    go : (j < length slots) ⊎ (length slots ≤ j) → entry (days slots) j ≡ slot-day (getD slots j None)
-    go (inl h) = getD-map slot-day slots j None None h
-    go (inr h) =
-        getD-past (days slots) j None (omega (arith, length-map slots slot-day)) ∙ sym (ap slot-day (getD-past slots j None h))
-
-nothing : (m n : ℕ) → take {A = Option Message} m [] ≡ take n []
-nothing m n = take-all m [] (omega arith) ∙ sym (take-all n [] (omega arith))
-
--- place j under topic t is what arrived from seat j
-pub entry-of : (k t : ℕ) (x : Inbox) (j : ℕ) → j < k → entry (days (under k t x)) j ≡ slot-day (arrived k x t j)
-unfolding arrived
-entry-of k t x j h =
-    day-at (under k t x) j ∙ ap slot-day (getD-take k (drop (t * k) x) j None h ∙ getD-drop (t * k) x j None)
-
--- no more than k places are read
-pub few-entries : (k t : ℕ) (x : Inbox) → length (days (under k t x)) ≤ k
-few-entries k t x = rw (length-map (under k t x) slot-day, length-take k (drop (t * k) x)) (omega arith)
-
--- in an inbox with its slots each topic has k
-pub all-entries : (k t : ℕ) (x : Inbox) → length x ≡ 2 * k → t < 2 → length (days (under k t x)) ≡ k
-all-entries k t x whole h =
-    length-map (under k t x) slot-day ∙ length-take k (drop (t * k) x) ∙ rw (length-drop (t * k) x, whole) (room t h)
-  where
-    room : (t : ℕ) → t < 2 → min k (2 * k - t * k) ≡ k
-    room zero h = omega arith
-    room (suc zero) h = omega arith
-    room (suc (suc t)) h = absurd (omega arith)
-
--- a part of a list that may end early, as it is cut out
-pub cut : (xs : Inbox) (a k from to : ℕ) → from ≡ min a (length xs) → to ≡ min (from + k) (length xs) → take (to - from) (drop from xs) ≡ take k (drop a xs)
-cut xs a k from to ef et = go (cases-lt a (length xs))
-  where
-    size : (d : ℕ) → d ≤ length xs → to ≡ min (d + k) (length xs) → take (to - d) (drop d xs) ≡ take k (drop d xs)
-    size d h e = side (cases-lt (length xs) (d + k))
-      where
-        side : (length xs < d + k) ⊎ (d + k ≤ length xs) → take (to - d) (drop d xs) ≡ take k (drop d xs)
-        side (inl over) =
-            take-all (to - d) (drop d xs) (omega (arith, length-drop d xs, e)) ∙ sym (take-all k (drop d xs) (omega (arith, length-drop d xs)))
-        side (inr in-it) = ap (λ n. take n (drop d xs)) (omega (arith, e))
-
-    go : (a < length xs) ⊎ (length xs ≤ a) → take (to - from) (drop from xs) ≡ take k (drop a xs)
-    go (inl h) =
-        let at : from ≡ a = omega (arith, ef) in
-        ap (λ n. take (to - n) (drop n xs)) at ∙ size a (omega arith) (omega (arith, et, at))
-    go (inr h) =
-        let at : from ≡ length xs = omega (arith, ef) in
-        ap (take (to - from)) (drop-all from xs (omega (arith, at))) ∙ nothing (to - from) k ∙ sym (ap (take k) (drop-all a xs h))
-
--- a message names its day
-pub slot-names : (o : Option Message) (v : ℕ) → slot-day o ≡ Some v → (m : Message) × (o ≡ Some m) × (m .day ≡ v)
-slot-names None v e = absurd (let z : _≡_ {A = ℕ} 0 1 = cc in omega arith)
-slot-names (Some m) v e = (m, refl, cc)
+use Rattle.graded.specs.Steps.{signed-by, word, who-named, certificate}
 
 -- who signs for a day says that day
 pub signed-day : (who : ℕ → ℕ) (o : Option ℕ) → slot-day (signed-by who o) ≡ o

@@ -1,6 +1,6 @@
 -- Honest seats keep discipline in the four rounds: what they say is their own word, or a certificate of words that reached them.
 use mathlib.Core.Path.{_≡_, refl, sym, _∙_, ap, subst}
-use mathlib.Core.Bool.{Bool, true, false}
+use mathlib.Core.Bool.{Bool, true}
 use mathlib.Core.List.{List}
 use mathlib.Core.Logic.{_⊎_, inl, inr}
 use Prim.Native.Nat.{ℕ, zero, suc, _+_, _*_, _^_, _≤_, _<_}
@@ -9,7 +9,7 @@ use lib.ListN.{length}
 use Rattle.std.specs.declared.option.Option.{Option}
 use Rattle.std.specs.declared.option.Option.the-variants.{Some, None}
 use Rattle.std.proofs.shelf.Bits.{pow-below}
-use Rattle.std.proofs.shelf.Tests.{cases-bool, both-ways}
+use Rattle.std.proofs.shelf.Tests.{both-ways}
 use Rattle.message.specs.declared.Message.{Message}
 use Rattle.message.specs.Members.{member, size, quorum, gathered}
 use Rattle.message.specs.Tally.{Day, slot-day, names, entry, reaching, tally}
@@ -19,15 +19,18 @@ use Rattle.protocol.specs.declared.Form.{Form}
 use Rattle.protocol.specs.declared.Form.the-variants.{Listed, Certificate}
 use Rattle.protocol.specs.Protocol.{Protocol, Well-formed}
 use Rattle.protocol.specs.Play.{Trace, state, says, hears, form-of, Sends, Possible, Play}
+use Rattle.protocol.specs.Inboxes.{under, days}
 use Rattle.protocol.specs.Discipline.{Reached, Disciplined}
+use Rattle.protocol.proofs.Reading.{entry-of, few-entries, all-entries, slot-names}
+use Rattle.protocol.proofs.Arriving.{arrives}
 use Rattle.graded.specs.declared.seats.Seat.{Seat}
 use Rattle.graded.specs.declared.table.Role.{Role}
 use Rattle.graded.specs.declared.table.Role.the-variants.{Echo, EchoCertificate, Vote, VoteCertificate, SecondVote}
 use Rattle.graded.specs.Roles.{role-at, role-form, form-at, form, kind, word-form, certificate-form}
-use Rattle.graded.specs.Steps.{under, days, word, who-named, certificate, unless-disputed, four-rounds}
+use Rattle.graded.specs.Steps.{word, who-named, certificate, unless-disputed, four-rounds}
 use Rattle.message.proofs.Tallying.{names-is, reaching-has, tally-upto}
-use Rattle.graded.proofs.Reading.{entry-of, few-entries, all-entries, slot-names, signed-is, word-formed, formed-word, certificate-formed, formed-certificate}
-use Rattle.graded.proofs.Hearing.{P, was-honest}
+use Rattle.graded.proofs.Reading.{signed-is, word-formed, formed-word, certificate-formed, formed-certificate}
+use Rattle.graded.proofs.Hearing.{P}
 
 -- what has a form is signed by seats, and a certificate by a quorum of them
 pub well-formed : (k : ℕ) → Well-formed P k
@@ -117,7 +120,7 @@ module _ (k : ℕ) (tr : Trace) where
         signers = bundle-signers r t i m b
 
         whole : length named ≡ k
-        whole = all-entries k 0 (tr .inbox (suc (b .before)) i) (play .whole (b .before) i (omega (arith, b .in-time)) hi) (omega arith)
+        whole = all-entries 2 k 0 (tr .inbox (suc (b .before)) i) (play .whole (b .before) i (omega (arith, b .in-time)) hi) (omega arith)
 
         below : who-named named (m .day) < 2 ^ k
         below = subst (λ n. who-named named (m .day) < 2 ^ n) whole (gathered-below (λ j. names (m .day) (entry named j)) (length named))
@@ -156,22 +159,14 @@ module _ (k : ℕ) (tr : Trace) where
     -- what arrives where words stand is signed by its sender
     heard-word : (r s i : ℕ) (m : Message) → r < 4 → s < k → i < k → ((j signers : ℕ) → form k (suc r) 0 j signers ≡ word-form j signers)
         → hears P k tr r 0 s i ≡ Some m → m .signers .mask ≡ 2 ^ s
-    heard-word r s i m hr hs hi words e = go (cases-bool (tr .corrupt (suc r) s))
+    heard-word r s i m hr hs hi words e = go (arrives P k tr play r 0 s i m hr (omega arith) hs hi e)
       where
         listed : (f : Form) → form-of P k tr r 0 s m ≡ Some f → m .signers .mask ≡ 2 ^ s
         listed f is = formed-word s (m .signers .mask) f (sym (words s (m .signers .mask)) ∙ is) .0
 
-        go : (tr .corrupt (suc r) s ≡ true) ⊎ (tr .corrupt (suc r) s ≡ false) → m .signers .mask ≡ 2 ^ s
-        go (inl bad) = let can = play .from-corrupt r 0 s i hr (omega arith) hs hi bad m e in listed (can .the-form) (can .formed)
-        go (inr good) =
-            let it = formed r 0 s m (record {
-              a-round = hr;
-              a-topic = omega arith;
-              a-seat = hs;
-              honest = was-honest k tr play r s hr hs good;
-              says-it = sym (play .from-honest r 0 s i hr (omega arith) hs hi good) ∙ e;
-            }) in
-            listed (it .0) (it .1)
+        go : Sends P k tr r 0 s m ⊎ Possible P k tr r 0 s m → m .signers .mask ≡ 2 ^ s
+        go (inl sends) = let it = formed r 0 s m sends in listed (it .0) (it .1)
+        go (inr can) = listed (can .the-form) (can .formed)
 
     -- each signature behind a certificate had reached the seat that shows it
     pub reached : (r t i : ℕ) (m : Message) → Sends P k tr r t i m → Bundle k tr r t i m

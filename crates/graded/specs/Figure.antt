@@ -10,9 +10,10 @@ use Rattle.message.specs.declared.Message.{Message}
 use Rattle.message.specs.Members.{Holds, quorum}
 use Rattle.message.specs.Tally.{before, names, entry, tally}
 use Rattle.protocol.specs.Protocol.{Inbox}
+use Rattle.protocol.specs.Inboxes.{under, days}
 use Rattle.graded.specs.declared.seats.Seat.{Seat}
 use Rattle.graded.specs.Roles.{role-at}
-use Rattle.graded.specs.Steps.{under, days, start, send, hear, outcome}
+use Rattle.graded.specs.Steps.{start, send, hear, outcome}
 
 -- the message has the signature of this seat alone
 abbrev pub Signed-alone : ℕ → Message → Type 0

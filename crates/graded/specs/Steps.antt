@@ -1,9 +1,9 @@
 -- One seat's steps, as they are computed.
 use mathlib.Core.Bool.{Bool, false, cond}
-use mathlib.Core.List.{List, map}
-use Prim.Native.Nat.{ℕ, zero, suc, _*_, _^_}
+use mathlib.Core.List.{List}
+use Prim.Native.Nat.{ℕ, zero, suc, _^_}
 use lib.Dec.{eqb}
-use lib.ListN.{length, take, drop}
+use lib.ListN.{length}
 use Rattle.std.specs.Options.{isSome, valueOr}
 use Rattle.std.specs.declared.option.Option.{Option}
 use Rattle.std.specs.declared.option.Option.the-variants.{Some, None}
@@ -11,19 +11,12 @@ use Rattle.message.specs.declared.Message.{Message}
 use Rattle.message.specs.Members.{gathered, quorum}
 use Rattle.message.specs.Tally.{slot-day, names, entry, others, reaching}
 use Rattle.protocol.specs.Protocol.{Inbox, Protocol}
+use Rattle.protocol.specs.Inboxes.{under, days}
 use Rattle.protocol.specs.Grading.{Grading}
 use Rattle.graded.specs.declared.seats.Seat.{Seat}
 use Rattle.graded.specs.declared.table.Role.{Role}
 use Rattle.graded.specs.declared.table.Role.the-variants.{Echo, EchoCertificate, Vote, VoteCertificate, SecondVote}
 use Rattle.graded.specs.Roles.{rounds, topics, role-at, form, kind}
-
--- the slots of one topic, one for each of k seats
-abbrev pub under : ℕ → ℕ → Inbox → Inbox
-under k t inbox = take k (drop (t * k) inbox)
-
--- the days that are named in slots
-abbrev pub days : Inbox → List (Option ℕ)
-days slots = map slot-day slots
 
 -- a message on a day, by those who sign for it; none where there is no day
 abbrev pub signed-by : (ℕ → ℕ) → Option ℕ → Option Message

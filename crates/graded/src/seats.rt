@@ -3,7 +3,8 @@ ghost use mathlib.Core.Path.{_≡_};
 ghost use Prim.Native.Nat.{_<_, _≤_};
 ghost use lib.ListN.{length};
 ghost use Rattle.message.specs.Members.{most-parties};
-ghost use Rattle.graded.specs.Steps.{days, word as own-word, certificate as certificate-of, unless-disputed, under as slots-under, start as at-first, says as said-as, send as sent, hear-echoes, hear-echo-certificates, hear-votes, hear-last, hear as heard, outcome as leaves-with};
+ghost use Rattle.protocol.specs.Inboxes.{days};
+ghost use Rattle.graded.specs.Steps.{word as own-word, certificate as certificate-of, unless-disputed, start as at-first, says as said-as, send as sent, hear-echoes, hear-echo-certificates, hear-votes, hear-last, hear as heard, outcome as leaves-with};
 use crate::table::Role;
 use message::Day;
 use message::Message;
@@ -18,6 +19,7 @@ use message::entries::disputed;
 use message::entries::naming;
 use message::entries::reaching;
 use message::sets::quorum;
+use protocol::slots::under;
 
 // What one seat keeps from round to round.
 #[derive(Clone, Copy, PartialEq, Eq, Debug)]
@@ -169,17 +171,4 @@ fn undisputed(certificates: &[Option<Message>], day: Option<Day>) -> Option<Day>
         Some(own) if !disputed(certificates, own) => day,
         _ => None,
     }
-}
-
-// The slots of one topic, as many as there are seats.
-fn under(inbox: &[Option<Message>], seats: u32, topic: u32) -> &[Option<Message>]
-    requires few { ⌜ seats ≤ most-parties ⌝ }
-    requires topics { ⌜ topic < 2 ⌝ }
-    ensures are { λ r. ⌜ now r ≡ slots-under seats topic (now (inbox .entry)) ⌝ }
-    ensures few { λ r. ⌜ length (now r) ≤ seats ⌝ }
-{
-    let len = inbox.len();
-    let from = ((topic * seats) as usize).min(len);
-    let to = (from + seats as usize).min(len);
-    &inbox[from..to]
 }

@@ -3,7 +3,7 @@ use message::Day;
 use message::Message;
 use message::Signers;
 
-pub fn said(day: Day, signers: Signers) -> Option<Message> {
+pub(crate) fn said(day: Day, signers: Signers) -> Option<Message> {
     if day == 0 {
         return None;
     }
@@ -11,7 +11,7 @@ pub fn said(day: Day, signers: Signers) -> Option<Message> {
 }
 
 // Whoever listens goes by the place of a slot, and not by who has signed what stands there.
-pub fn filled<const N: usize>(days: [Day; N]) -> [Option<Message>; N] {
+pub(crate) fn filled<const N: usize>(days: [Day; N]) -> [Option<Message>; N] {
     let mut slots = [None; N];
     for (i, day) in days.iter().enumerate() {
         slots[i] = said(*day, Signers::none());

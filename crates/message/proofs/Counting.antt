@@ -4,7 +4,6 @@ use mathlib.Core.Bool.{Bool, true, false, not, _&&_, _||_, cond}
 use mathlib.Core.Logic.{_⊎_, inl, inr, _≢_}
 use Prim.Native.Nat.{ℕ, zero, suc, _+_, _*_, _≤_, _<_}
 use native.Mathlib.Nat.{add-zero, add-suc}
-use native.Mathlib.Numerals.{add-one}
 use native.Mathlib.Omega.{arith}
 use lib.Dec.{eqb}
 use Rattle.std.proofs.shelf.Tests.{cases-bool, cases-eq, eq-eqb, eqb-true, or-left, or-right, or-cases, and-parts}
@@ -28,15 +27,6 @@ somewhere f (suc n) = go (cases-bool (f n)) (somewhere f n)
     go (inl e) ih = inl (n, omega arith, e)
     go (inr e) (inl s) = inl (s .0, omega arith, s .2)
     go (inr e) (inr all) = inr (below-suc (λ i. f i ≡ false) n all e)
-
--- one number more
-pub count-yes : (f : ℕ → Bool) (n : ℕ) → f n ≡ true → count f (n + 1) ≡ count f n + 1
-unfolding count
-count-yes f n e = rw (add-one n) (ap (λ b. count f n + cond b 1 0) e)
-
-pub count-no : (f : ℕ → Bool) (n : ℕ) → f n ≡ false → count f (n + 1) ≡ count f n
-unfolding count
-count-no f n e = rw (add-one n) (ap (λ b. count f n + cond b 1 0) e ∙ add-zero (count f n))
 
 pub count-le : (f : ℕ → Bool) (n : ℕ) → count f n ≤ n
 unfolding count
@@ -92,6 +82,12 @@ pub count-append : (f : ℕ → Bool) (a c : ℕ) → count f (a + c) ≡ count 
 unfolding count
 count-append f a zero = simp add-zero
 count-append f a (suc c) = let ih = count-append f a c in simp add-suc (omega arith)
+
+-- the first number, and those after it
+pub count-front : (f : ℕ → Bool) (n : ℕ) → count f (suc n) ≡ cond (f 0) 1 0 + count (λ i. f (suc i)) n
+unfolding count
+count-front f zero = omega arith
+count-front f (suc n) = omega (arith, count-front f n)
 
 -- where f passes more often than g, it passes somewhere that g does not
 pub count-more : (f g : ℕ → Bool) (n : ℕ) → count g n < count f n → (i : ℕ) × (i < n) × (f i ≡ true) × (g i ≡ false)

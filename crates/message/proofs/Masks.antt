@@ -3,18 +3,19 @@ use mathlib.Core.Path.{_≡_, refl, sym, _∙_, ap, subst}
 use mathlib.Core.Bool.{Bool, true, false, not, cond, _&&_, _||_}
 use mathlib.Core.Logic.{_⊎_, inl, inr, _≢_, ⊎-elim}
 use Prim.Native.Nat.{ℕ, zero, suc, _+_, _-_, _*_, _/_, _%_, _^_, _≤_, _<_}
-use native.Mathlib.Nat.{add-zero, zero-add, add-comm, add-mul-div-right, add-div-right, div-eq-of-lt, div-one, mod-eq-of-lt, mul-assoc, one-mul, sub-zero, pow-suc}
-use native.Mathlib.Numerals.{one-add, add-one}
+use native.Mathlib.Nat.{add-zero, zero-add, add-comm, add-mul-div-right, add-div-right, div-eq-of-lt, div-one, mul-assoc, sub-zero, pow-suc}
+use native.Mathlib.Numerals.{one-add}
 use native.Mathlib.Omega.{arith}
 use lib.Bits.{bitAnd, bitOr, and-step, or-step}
 use lib.Count.{ones, ones-step}
 use lib.Dec.{eqb, leb, ltb}
 use lib.Pow.{ones-split}
-use Rattle.std.proofs.shelf.Bits.{pow-pos, pow-add, pow-below, shl-shr, shr-shr, shr-split, shr-high, le-div, mod-below, and-mask, and-le-l, and-shr, or-shr, or-comm, or-shifted}
-use Rattle.std.proofs.shelf.Tests.{cases-eq, cases-lt, cases-order, both-ways, eq-eqb, ne-eqb, eqb-true, eqb-false, lt-ltb, le-ltb, le-leb, lt-leb, and-parts}
+use Rattle.std.proofs.shelf.Bits.{pow-pos, pow-add, pow-below, shl-shr, shr-shr, shr-split, shr-high, mod-below, and-mask, and-le-l, and-shr, or-shr}
+use Rattle.std.proofs.shelf.Tests.{cases-eq, cases-lt, cases-order, both-ways, eq-eqb, ne-eqb, eqb-true, eqb-false, not-true, not-false, lt-ltb, le-ltb, le-leb, lt-leb, and-parts}
+use Rattle.std.specs.Orderings.{When}
 use Rattle.message.specs.Count.{count}
 use Rattle.message.specs.Members.{member, size, gathered, Holds, Tells-subset}
-use Rattle.message.proofs.Counting.{below-suc, count-same, count-one, count-pos, count-some}
+use Rattle.message.proofs.Counting.{below-suc, count-same}
 
 -- ---- one member at a time, the lowest first
 
@@ -220,18 +221,26 @@ member-front : (k i set : ℕ) → member i (set % 2 ^ k) ≡ (member i set && l
 member-front k i set =
     ap (member i) (sym (and-mask set k)) ∙ member-and i set (2 ^ k - 1) ∙ ap (λ x. member i set && x) (member-first k i)
 
--- a set moved down and up again takes no more room
-pub down-up : (w lo set : ℕ) → set < 2 ^ w → set / 2 ^ lo * 2 ^ lo % 2 ^ w ≡ set / 2 ^ lo * 2 ^ lo
-down-up w lo set small = mod-eq-of-lt (let split = shr-split set lo in omega arith)
-
--- a set that is not moved up by lo has a member before lo
-pub some-before : (lo set : ℕ) → (set / 2 ^ lo * 2 ^ lo ≡ set → ⊥) → (i : ℕ) × (i < lo) × (member i set ≡ true)
-some-before lo set off =
-    let split = shr-split set lo in
-    let found = some-member lo (set % 2 ^ lo) (omega arith) (mod-below set (2 ^ lo) (pow-pos lo)) in
+some-before : (k set : ℕ) → 0 < set % 2 ^ k → (i : ℕ) × (i < k) × (member i set ≡ true)
+some-before k set some =
+    let found = some-member k (set % 2 ^ k) some (mod-below set (2 ^ k) (pow-pos k)) in
     let i = found .0 in
-    let parts = and-parts (member i set) (ltb i lo) (sym (member-front lo i set) ∙ found .2) in
+    let parts = and-parts (member i set) (ltb i k) (sym (member-front k i set) ∙ found .2) in
     (i, found .1, parts .0)
+
+-- the low bits tell whether a set has a member below k
+pub tells-below :
+    (k set low : ℕ) → low ≡ 2 ^ k - 1 → (r : Bool) → not (eqb (bitAnd set low) 0) ≡ r
+    → When r ((i : ℕ) × (i < k) × (member i set ≡ true)) (set ≡ set / 2 ^ k * 2 ^ k)
+tells-below k set low is true e =
+    let front : bitAnd set low ≡ set % 2 ^ k = rw is (and-mask set k) in
+    let some = eqb-false (bitAnd set low) 0 (not-true (eqb (bitAnd set low) 0) e) in
+    some-before k set (omega arith)
+tells-below k set low is false e =
+    let front : bitAnd set low ≡ set % 2 ^ k = rw is (and-mask set k) in
+    let none = eqb-true (bitAnd set low) 0 (not-false (eqb (bitAnd set low) 0) e) in
+    let split = shr-split set k in
+    omega arith
 
 -- ---- two members
 
@@ -305,38 +314,35 @@ member-gathered f (suc k) i h =
     new false = ap (member k) (add-zero (gathered f k)) ∙ above (gathered f k) k (gathered-below f k)
 
 -- one number more
-pub gathered-no : (f : ℕ → Bool) (k : ℕ) → f k ≡ false → gathered f (k + 1) ≡ gathered f k
-unfolding gathered
-gathered-no f k e = rw add-one (ap (λ b. gathered f k + cond b (2 ^ k) 0) e ∙ add-zero (gathered f k))
+pub gathered-yes :
+    (f : ℕ → Bool) (k old set : ℕ) → f k ≡ true → Holds old (λ i. ltb i k && f i) → Holds set (λ i. eqb i k || member i old)
+    → Holds set (λ i. ltb i (k + 1) && f i)
+gathered-yes f k old set e so-far more i = more i ∙ ap (λ x. eqb i k || x) (so-far i) ∙ go (cases-eq i k)
+  where
+    go : (i ≡ k) ⊎ (i ≡ k → ⊥) → (eqb i k || (ltb i k && f i)) ≡ (ltb i (k + 1) && f i)
+    go (inl at) = let fi = ap f at ∙ e in grind arith
+    go (inr off) = grind arith
 
-gathered-yes : (f : ℕ → Bool) (k : ℕ) → f k ≡ true → gathered f (k + 1) ≡ gathered f k + 2 ^ k
-unfolding gathered
-gathered-yes f k e = rw (add-one k) (ap (λ b. gathered f k + cond b (2 ^ k) 0) e)
+pub gathered-no :
+    (f : ℕ → Bool) (k set : ℕ) → f k ≡ false → Holds set (λ i. ltb i k && f i) → Holds set (λ i. ltb i (k + 1) && f i)
+gathered-no f k set e so-far i = so-far i ∙ go (cases-eq i k)
+  where
+    go : (i ≡ k) ⊎ (i ≡ k → ⊥) → (ltb i k && f i) ≡ (ltb i (k + 1) && f i)
+    go (inl at) = let fi = ap f at ∙ e in grind arith
+    go (inr off) = grind arith
 
-pub gathered-with :
-    (f : ℕ → Bool) (k old set : ℕ) → f k ≡ true → old ≡ gathered f k → Holds set (λ i. eqb i k || member i old)
-    → set ≡ gathered f (k + 1)
-gathered-with f k old set e so-far holds =
-    let same = same-set set (bitOr old (2 ^ k)) (λ i. holds i ∙ sym (member-with i k old)) in
-    let small : old < 2 ^ k = omega (arith, gathered-below f k) in
-    let sum = or-comm old (2 ^ k) ∙ ap (λ n. bitOr n old) (sym (one-mul (2 ^ k))) ∙ or-shifted 1 k old small in
-    omega (arith, same, sum, gathered-yes f k e)
+-- and there is one such set
+pub gathered-is : (f : ℕ → Bool) (k set : ℕ) → Holds set (λ i. ltb i k && f i) → set ≡ gathered f k
+gathered-is f k set holds = same-set set (gathered f k) (λ i. holds i ∙ go i (cases-lt i k))
+  where
+    go : (i : ℕ) → (i < k) ⊎ (k ≤ i) → (ltb i k && f i) ≡ member i (gathered f k)
+    go i (inl h) = rw (lt-ltb i k h) (sym (member-gathered f k i h))
+    go i (inr h) = rw (le-ltb i k h) (sym (none-above (gathered f k) k i (gathered-below f k) h))
 
 -- ---- how large a set is
 
 pub size-gathered : (f : ℕ → Bool) (k : ℕ) → size k (gathered f k) ≡ count f k
 size-gathered f k = count-same (λ i. member i (gathered f k)) f k (member-gathered f k)
-
-pub size-some : (k set : ℕ) → 0 < size k set → (i : ℕ) × (i < k) × (member i set ≡ true)
-size-some k set = count-some (λ i. member i set) k
-
-pub size-alone : (k i : ℕ) → i < k → size k (2 ^ i) ≡ 1
-size-alone k i h =
-    omega (
-      arith,
-      count-one (λ j. member j (2 ^ i)) i k (λ j. member-only j i),
-      count-pos (λ j. member j (2 ^ i)) k i h (member-own i),
-    )
 
 low-one : (set : ℕ) → cond (member 0 set) 1 0 ≡ set % 2
 low-one set = rw (member-low set) (grind arith)
@@ -376,20 +382,3 @@ tells-subset k a b la lb false e =
   where
     left-out : (x y : Bool) → (x && not y) ≡ true → (x ≡ true) × (y ≡ false)
     left-out x y e = grind arith
-
--- the sets of members below k are the numbers below 2 ^ k
-pub subset-first : (k set : ℕ) (r : Bool) → Tells-subset set (2 ^ k - 1) r → r ≡ ltb set (2 ^ k)
-subset-first k set true all = sym (lt-ltb set (2 ^ k) (side (cases-lt set (2 ^ k))))
-  where
-    side : (set < 2 ^ k) ⊎ (2 ^ k ≤ set) → set < 2 ^ k
-    side (inl h) = h
-    side (inr h) =
-        let some = some-member (set / 2 ^ k) (set / 2 ^ k) (le-div 1 set (2 ^ k) (pow-pos k) (omega arith)) (own-bound (set / 2 ^ k)) in
-        let there = all (k + some .0) (sym (member-down k (some .0) set) ∙ some .2) in
-        absurd (both-ways (member (k + some .0) (2 ^ k - 1)) (member-first k (k + some .0) ∙ le-ltb (k + some .0) k (omega arith)) there)
-subset-first k set false one = sym (le-ltb set (2 ^ k) (side (cases-lt set (2 ^ k))))
-  where
-    side : (set < 2 ^ k) ⊎ (2 ^ k ≤ set) → 2 ^ k ≤ set
-    side (inl h) =
-        absurd (both-ways (member (one .0) (2 ^ k - 1)) (one .2) (member-first k (one .0) ∙ lt-ltb (one .0) k (member-below set k (one .0) h (one .1))))
-    side (inr h) = h

@@ -1,20 +1,20 @@
 -- What is read off a tally: who has enough entries, who alone can have them, and which day is the lowest.
 use mathlib.Core.Path.{_≡_, refl, sym, _∙_, ap, subst}
-use mathlib.Core.Bool.{Bool, true, false}
-use mathlib.Core.List.{List, [], _∷_, _++_, map}
+use mathlib.Core.Bool.{Bool, true, false, cond}
+use mathlib.Core.List.{List, [], _∷_, map}
 use mathlib.Core.Logic.{_⊎_, inl, inr}
 use Prim.Native.Nat.{ℕ, zero, suc, _+_, _-_, _≤_, _<_}
 use native.Mathlib.Omega.{arith}
 use lib.Dec.{eqb, leb, ltb}
-use lib.ListN.{length, getD, take}
+use lib.ListN.{length, getD, drop}
 use Rattle.std.specs.declared.option.Option.{Option}
 use Rattle.std.specs.declared.option.Option.the-variants.{Some, None}
-use Rattle.std.proofs.shelf.Lists.{getD-map, getD-past, take-more}
+use Rattle.std.proofs.shelf.Lists.{getD-map, getD-past, drop-more, drop-all, at-drop-more, at-drop-all}
 use Rattle.std.proofs.shelf.Tests.{cases-bool, cases-lt, both-ways, eq-eqb, eqb-true, eqb-false, not-true, not-false, leb-true, le-leb, ltb-true, ltb-false, lt-ltb, and-parts, and-from}
 use Rattle.message.specs.Count.{count}
 use Rattle.message.specs.Members.{quorum}
 use Rattle.message.specs.Tally.{before, names, differs, entry, tally, earlier, passing, lowest, reaches, reaching, Lowest-reaching, Tells-dispute}
-use Rattle.message.proofs.Counting.{count-append, count-meet, count-none, count-pos, count-some}
+use Rattle.message.proofs.Counting.{count-append, count-front, count-meet, count-none, count-pos, count-some}
 
 -- ---- one entry
 
@@ -58,6 +58,32 @@ tally-upto days k d h =
       none,
     )
 
+tally-cons : (x : Option ℕ) (days : List (Option ℕ)) (d : ℕ) → tally (x ∷ days) d ≡ cond (names d x) 1 0 + tally days d
+unfolding tally
+tally-cons x days d = count-front (λ i. names d (entry (x ∷ days) i)) (length days)
+
+-- what an entry that was read adds to what is left to count
+pub tally-yes :
+    (days : List (Option ℕ)) (i d : ℕ) → i < length days → names d (entry days i) ≡ true
+    → tally (drop i days) d ≡ tally (drop (i + 1) days) d + 1
+tally-yes days i d h e =
+    let rest : tally (drop i days) d ≡ cond true 1 0 + tally (drop (i + 1) days) d =
+    rw (drop-more days i None h) (rw (tally-cons (entry days i) (drop (i + 1) days) d, e)) in
+    omega arith
+
+pub tally-no :
+    (days : List (Option ℕ)) (i d : ℕ) → i < length days → names d (entry days i) ≡ false
+    → tally (drop i days) d ≡ tally (drop (i + 1) days) d
+tally-no days i d h e =
+    let rest : tally (drop i days) d ≡ cond false 1 0 + tally (drop (i + 1) days) d =
+    rw (drop-more days i None h) (rw (tally-cons (entry days i) (drop (i + 1) days) d, e)) in
+    omega arith
+
+-- past the last nothing is left
+pub tally-over : (days : List (Option ℕ)) (i d : ℕ) → length days ≤ i → tally (drop i days) d ≡ 0
+unfolding tally count
+tally-over days i d h = rw (drop-all i days h)
+
 -- who is counted stands somewhere
 pub named-somewhere : (days : List (Option ℕ)) (d : ℕ) → 0 < tally days d → (i : ℕ) × (entry days i ≡ Some d)
 unfolding tally
@@ -86,27 +112,33 @@ no-dispute days d none i u e = go (cases-lt i (length days))
 
 -- ---- the lowest day that passes a test
 
-swap : (a b c : Option ℕ) → earlier a (earlier b c) ≡ earlier b (earlier a c)
-swap None b c = refl
-swap (Some u) None c = refl
-swap (Some u) (Some v) None = ap Some (grind arith)
-swap (Some u) (Some v) (Some w) = ap Some (grind arith)
-
-lowest-push :
-    (ok : ℕ → Bool) (xs : List (Option ℕ)) (x : Option ℕ) → lowest ok (xs ++ x ∷ []) ≡ earlier (passing ok x) (lowest ok xs)
+lowest-cons : (ok : ℕ → Bool) (x : Option ℕ) (days : List (Option ℕ)) → lowest ok (x ∷ days) ≡ earlier (passing ok x) (lowest ok days)
 unfolding lowest
-lowest-push ok [] x = refl
-lowest-push ok (y ∷ xs) x =
-    ap (earlier (passing ok y)) (lowest-push ok xs x) ∙ swap (passing ok y) (passing ok x) (lowest ok xs)
+lowest-cons ok x days = refl
 
--- one entry more
+earlier-turn : (a b c : Option ℕ) → earlier (earlier a b) c ≡ earlier b (earlier a c)
+earlier-turn None b c = refl
+earlier-turn (Some u) None c = refl
+earlier-turn (Some u) (Some v) None = ap Some (grind arith)
+earlier-turn (Some u) (Some v) (Some w) = ap Some (grind arith)
+
+-- an entry that was read is put before the best so far
 pub lowest-more :
     (ok : ℕ → Bool) (days : List (Option ℕ)) (i : ℕ) (o passed best next : Option ℕ) → i < length days → entry days i ≡ o
-    → passed ≡ passing ok o → best ≡ lowest ok (take i days) → next ≡ earlier passed best → next ≡ lowest ok (take (i + 1) days)
+    → passed ≡ passing ok o → earlier best (lowest ok (drop i days)) ≡ lowest ok days → next ≡ earlier passed best
+    → earlier next (lowest ok (drop (i + 1) days)) ≡ lowest ok days
 lowest-more ok days i o passed best next h here pass so-far step =
-    let front = take-more days i None h in
-    let push = lowest-push ok (take i days) (entry days i) in
+    let rest = at-drop-more (lowest ok) days i None h ∙ lowest-cons ok (entry days i) (drop (i + 1) days) in
+    let turn = earlier-turn passed best (lowest ok (drop (i + 1) days)) in
     cc
+
+-- past the last the best so far is the lowest of all
+pub lowest-over :
+    (ok : ℕ → Bool) (days : List (Option ℕ)) (i : ℕ) (best : Option ℕ) → length days ≤ i
+    → earlier best (lowest ok (drop i days)) ≡ lowest ok days → best ≡ lowest ok days
+unfolding lowest
+lowest-over ok days i None h so-far = sym (at-drop-all (lowest ok) days i h) ∙ so-far
+lowest-over ok days i (Some u) h so-far = ap (earlier (Some u)) (sym (at-drop-all (lowest ok) days i h)) ∙ so-far
 
 -- o is the lowest day that an entry names and that passes the test
 abbrev Least : (ℕ → Bool) → List (Option ℕ) → Option ℕ → Type 0

@@ -32,6 +32,10 @@ Tells-subset a b r =
 abbrev pub quorum : ℕ → ℕ
 quorum k = k / 2 + 1
 
+-- how many bits a word has
+abbrev pub width : ℕ
+width = 32
+
 -- how many parties there can be: as many as a set of signers has room for
 abbrev pub most-parties : ℕ
-most-parties = 32
+most-parties = width

@@ -1,14 +1,15 @@
-// Sets of signers: made by shifts, asked by masks.
+// Sets of signers: each is one word, and its members are the numbers in it.
 ghost use mathlib.Core.Path.{_≡_};
 ghost use mathlib.Core.Bool.{true, false, _&&_, _||_};
-ghost use Prim.Native.Nat.{ℕ, _+_, _-_, _*_, _/_, _^_, _<_, _≤_};
+ghost use Prim.Native.Nat.{ℕ, _+_, _-_, _*_, _^_, _<_, _≤_};
 ghost use lib.Dec.{eqb, leb, ltb};
 ghost use Rattle.std.specs.Options.{Cases};
 ghost use Rattle.message.specs.Members.{member, size, Holds, Tells-subset, quorum as more-than-half, most-parties};
 use crate::Signers;
+use crate::bits;
 
 // How many parties there can be: as many as a mask has bits.
-pub const MOST_PARTIES: u32 = 32;
+pub const MOST_PARTIES: u32 = bits::WIDTH;
 
 impl Signers {
     // Nobody.
@@ -16,7 +17,7 @@ impl Signers {
         ensures is { λ r. ⌜ r .mask ≡ 0 ⌝ }
         ensures members { λ r. ⌜ Holds (r .mask) (λ _. false) ⌝ }
     {
-        Signers { mask: 0 }
+        Signers { mask: bits::none() }
     }
 
     // One alone.
@@ -25,7 +26,9 @@ impl Signers {
         ensures is { λ r. ⌜ r .mask ≡ 2 ^ seat ⌝ }
         ensures members { λ r. ⌜ Holds (r .mask) (λ i. eqb i seat) ⌝ }
     {
-        Signers { mask: 1u32 << seat }
+        Signers {
+            mask: bits::single(seat),
+        }
     }
 
     // The first so many.
@@ -34,11 +37,8 @@ impl Signers {
         ensures is { λ r. ⌜ r .mask ≡ 2 ^ seats - 1 ⌝ }
         ensures members { λ r. ⌜ Holds (r .mask) (λ i. ltb i seats) ⌝ }
     {
-        if seats == 0 {
-            return Signers::none();
-        }
         Signers {
-            mask: u32::MAX >> (MOST_PARTIES - seats),
+            mask: bits::low(seats),
         }
     }
 
@@ -48,7 +48,7 @@ impl Signers {
         ensures { λ r. ⌜ Holds (r .mask) (λ i. eqb i seat || member i (self .mask)) ⌝ }
     {
         Signers {
-            mask: self.mask | 1u32 << seat,
+            mask: bits::put_in(self.mask, seat),
         }
     }
 
@@ -56,21 +56,21 @@ impl Signers {
     pub fn contains(self, seat: u32) -> bool
         ensures { λ r. ⌜ r ≡ member seat (self .mask) ⌝ }
     {
-        seat < MOST_PARTIES && self.mask >> seat & 1 == 1
+        bits::holds(self.mask, seat)
     }
 
     // How many members there are.
     pub fn len(self) -> u32
         ensures { λ r. ⌜ ((k : ℕ) → self .mask < 2 ^ k → r ≡ size k (self .mask)) ⌝ }
     {
-        self.mask.count_ones()
+        bits::ones(self.mask)
     }
 
     // Whether each member is a member of the other set.
     pub fn is_subset(self, other: Signers) -> bool
         ensures { λ r. ⌜ Tells-subset (self .mask) (other .mask) r ⌝ }
     {
-        self.mask & !other.mask == 0
+        bits::none_outside(self.mask, other.mask)
     }
 
     // Whether each member is one of the first so many.
@@ -78,7 +78,7 @@ impl Signers {
         requires { ⌜ seats ≤ most-parties ⌝ }
         ensures { λ r. ⌜ r ≡ ltb (self .mask) (2 ^ seats) ⌝ }
     {
-        self.is_subset(Signers::first(seats))
+        bits::all_below(self.mask, seats)
     }
 
     // Seats of a committee as parties: seat i is party first + i.
@@ -89,7 +89,7 @@ impl Signers {
         ensures members { λ r. ⌜ Holds (r .mask) (λ i. leb first i && member (i - first) (self .mask)) ⌝ }
     {
         Signers {
-            mask: self.mask << first,
+            mask: bits::up(self.mask, first),
         }
     }
 
@@ -98,12 +98,12 @@ impl Signers {
         requires { ⌜ first < most-parties ⌝ }
         ensures { λ r. ⌜ Cases r ((i : ℕ) × (i < first) × (member i (self .mask) ≡ true)) (λ seats. (self .mask ≡ seats .mask * 2 ^ first) × Holds (seats .mask) (λ i. member (first + i) (self .mask))) ⌝ }
     {
-        let mask = self.mask >> first;
-        if mask << first == self.mask {
-            Some(Signers { mask })
-        } else {
-            None
+        if bits::any_below(self.mask, first) {
+            return None;
         }
+        Some(Signers {
+            mask: bits::down(self.mask, first),
+        })
     }
 }
 

@@ -1,2 +1,4 @@
 pub mod Continuing
 pub mod Listening
+pub mod Reading
+pub mod Arriving

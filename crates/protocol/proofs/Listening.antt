@@ -11,7 +11,7 @@ use Rattle.std.specs.declared.option.Option.{Option}
 use Rattle.std.specs.declared.option.Option.the-variants.{Some, None}
 use Rattle.std.proofs.shelf.Bits.{div-add-mod', div-below, mod-below}
 use Rattle.std.proofs.shelf.Lists.{ext-getD}
-use Rattle.std.proofs.shelf.Tests.{cases-bool, cases-lt, both-ways}
+use Rattle.std.proofs.shelf.Tests.{cases-bool}
 use Rattle.message.specs.declared.Message.{Message}
 use Rattle.message.specs.Count.{count}
 use Rattle.message.specs.Tally.{Day}
@@ -21,6 +21,7 @@ use Rattle.protocol.specs.Play.{Trace, state, says, hears, Sends, Played, Play
 use Rattle.protocol.specs.Agreement.{Meaning, protocol-of, base-topics, answer, Agrees, Keeps-discipline}
 use Rattle.protocol.specs.Lawful.{Does-not-listen, Admits-nothing, Agreeing-takes-a-round, Agreeing-takes-listening, Agreeing-takes-messages}
 use Rattle.protocol.proofs.Continuing.{exist}
+use Rattle.protocol.proofs.Arriving.{was-honest}
 
 module _ {R : Type 0} (a : Meaning R) (agrees : Agrees a) (k : ℕ) (two : 2 ≤ k) (few : k ≤ a .most) where
   abbrev P : Protocol R
@@ -83,18 +84,11 @@ module _ {R : Type 0} (a : Meaning R) (agrees : Agrees a) (k : ℕ) (two : 2 ≤
               let none = nothing (suc r) t j (m .signers .mask) hj in
               absurd (let z : _≡_ {A = ℕ} 0 1 = cc in omega arith)
 
-      was-honest : (r j : ℕ) → r < a .rounds k → j < k → tr .corrupt (suc r) j ≡ false → tr .corrupt r j ≡ false
-      was-honest r j hr hj e = go (cases-bool (tr .corrupt r j))
-        where
-          go : (tr .corrupt r j ≡ true) ⊎ (tr .corrupt r j ≡ false) → tr .corrupt r j ≡ false
-          go (inl bad) = absurd (both-ways (tr .corrupt (suc r) j) e (play .stays r j hr hj bad))
-          go (inr good) = good
-
       empty : (r t j i : ℕ) → r < a .rounds k → t < base-topics → j < k → i < k → hears P k tr r t j i ≡ None
       empty r t j i hr ht hj hi = go (cases-bool (tr .corrupt (suc r) j)) (hears P k tr r t j i) refl
         where
           go : (tr .corrupt (suc r) j ≡ true) ⊎ (tr .corrupt (suc r) j ≡ false) → (o : Option Message) → hears P k tr r t j i ≡ o → hears P k tr r t j i ≡ None
-          go (inr good) o e = play .from-honest r t j i hr ht hj hi good ∙ silent r t j hr ht hj (was-honest r j hr hj good)
+          go (inr good) o e = play .from-honest r t j i hr ht hj hi good ∙ silent r t j hr ht hj (was-honest P k tr play r j hr hj good)
           go (inl bad) None e = e
           go (inl bad) (Some m) e =
               let some = play .from-corrupt r t j i hr ht hj hi bad m e .formed in

@@ -1,4 +1,5 @@
 pub mod Protocol
+pub mod Inboxes
 pub mod Play
 pub mod Cost
 pub mod Discipline

@@ -1,6 +1,6 @@
 use mathlib.Core.Path.{sym, ap, _∙_}
 use Rattle.message.specs.Tally.{reaching}
-use Rattle.graded.specs.Steps.{days, who-named}
+use Rattle.protocol.specs.Inboxes.{days}
 use Rattle.graded.proofs.Reading.{certificate-made, certificate-none}
 use Rattle.graded.proofs.seats.certificate.Needs as need
 

@@ -1,5 +1,5 @@
 use mathlib.Core.Path.{sym}
-use Rattle.graded.specs.Steps.{days}
+use Rattle.protocol.specs.Inboxes.{days}
 use Rattle.graded.proofs.Grades.{is-undisputed, disputed-is-none}
 use Rattle.graded.proofs.seats.undisputed.Needs as need
 

@@ -1,12 +1,12 @@
--- So far the count is of the entries that were read.
-use Prim.Native.Nat.{_≤_}
+-- What is counted and what is left make up the tally.
+use Prim.Native.Nat.{_+_, _≤_}
 use mathlib.Core.Path.{_≡_}
 use mathlib.Core.List.{map}
-use Rattle.message.specs.Count.{count}
-use Rattle.message.specs.Tally.{names, entry}
+use lib.ListN.{drop}
+use Rattle.message.specs.Tally.{tally}
 use Rattle.message.proofs.entries.count.Given as given
 
 abbrev pub Inv-loop-x : given.InvT-loop-x
 Inv-loop-x g l =
     (l .n ≤ l .x-index)
-    × (l .n ≡ count (λ i. names (l .day) (entry (map (g .T·NamesDay .named) (l .entries)) i)) (l .x-index))
+    × (l .n + tally (drop (l .x-index) (map (g .T·NamesDay .named) (l .entries))) (l .day) ≡ tally (map (g .T·NamesDay .named) (l .entries)) (l .day))

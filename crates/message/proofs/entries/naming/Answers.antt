@@ -1,20 +1,17 @@
 -- Each entry that names the day puts its place into the set.
-use mathlib.Core.Bool.{Bool}
+use mathlib.Core.Bool.{Bool, _&&_}
 use mathlib.Core.List.{map}
-use mathlib.Core.Path.{_≡_, sym, ap, _∙_}
-use Prim.Native.Nat.{ℕ}
+use mathlib.Core.Path.{_≡_, sym, ap, subst, _∙_}
+use Prim.Native.Nat.{ℕ, _+_}
 use native.Mathlib.Omega.{arith}
+use lib.Dec.{ltb}
 use lib.ListN.{length}
-use Rattle.message.specs.Members.{gathered}
+use Rattle.message.specs.Members.{gathered, Holds}
 use Rattle.message.specs.Tally.{names, entry}
-use Rattle.message.proofs.Masks.{gathered-no, gathered-with}
+use Rattle.message.proofs.Masks.{gathered-yes, gathered-no, gathered-is}
 use Rattle.message.proofs.Tallying.{test-read}
 use Rattle.message.proofs.entries.naming.Needs as need
 use Rattle.message.proofs.entries.naming.Needs.{then-is-for, else-is-for}
-
-pub loop-i-holds : need.loop-i-holds
-unfolding gathered
-loop-i-holds g c = c .none-set .ensures .is
 
 pub loop-i-again : need.loop-i-again
 loop-i-again g c =
@@ -25,14 +22,16 @@ loop-i-again g c =
     (c .is-for .ensures) in
     elim (c .if-is-for .came) [
       | then-is-for w ↦
-          ap (λ s. s .mask) (w .set-is)
-          ∙ gathered-with f (c .loop-i .i) (c .loop-i .set .mask) (w .with-set .result .mask) (told ∙ w .if-is-for .taken)
-          (c .loop-i .inv) (w .with-set .ensures)
-      | else-is-for w ↦ ap (λ s. s .mask) (w .set-is) ∙ c .loop-i .inv ∙ sym (gathered-no f _ (told ∙ w .if-is-for .left))
+          subst (λ s. Holds (s .mask) (λ j. ltb j (c .loop-i .i + 1) && f j)) (sym (w .set-is))
+          (gathered-yes f (c .loop-i .i) (c .loop-i .set .mask) (w .with-set .result .mask) (told ∙ w .if-is-for .taken)
+          (c .loop-i .inv) (w .with-set .ensures))
+      | else-is-for w ↦
+          subst (λ s. Holds (s .mask) (λ j. ltb j (c .loop-i .i + 1) && f j)) (sym (w .set-is))
+          (gathered-no f (c .loop-i .i) (c .loop-i .set .mask) (told ∙ w .if-is-for .left) (c .loop-i .inv))
     ]
 
 pub returns : need.returns
 returns g c =
     let f : ℕ → Bool = λ i. names (c .args .day) (entry (map (g .T·NamesDay .named) (c .args .entries .now)) i) in
     let all : c .loop-i .i ≡ length (c .args .entries .now) = omega arith in
-    c .loop-i .inv ∙ ap (gathered f) all
+    gathered-is f (c .loop-i .i) (c .loop-i .set .mask) (c .loop-i .inv) ∙ ap (gathered f) all

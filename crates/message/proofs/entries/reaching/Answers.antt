@@ -1,14 +1,10 @@
 -- Each entry is put before the best so far if it is lower, and at the end all are read.
 use mathlib.Core.List.{map}
-use mathlib.Core.Path.{refl, sym, ap, subst, _∙_}
-use Rattle.std.proofs.shelf.Lists.{length-map, take-all}
-use Rattle.message.specs.Tally.{lowest, reaches, reaching, Lowest-reaching}
-use Rattle.message.proofs.Tallying.{entry-read, lowest-more, reaching-means}
+use mathlib.Core.Path.{sym, subst}
+use Rattle.std.proofs.shelf.Lists.{length-map}
+use Rattle.message.specs.Tally.{reaches, reaching, Lowest-reaching}
+use Rattle.message.proofs.Tallying.{entry-read, lowest-more, lowest-over, reaching-means}
 use Rattle.message.proofs.entries.reaching.Needs as need
-
-pub loop-x-holds : need.loop-x-holds
-unfolding lowest
-loop-x-holds g c = refl
 
 pub loop-x-again : need.loop-x-again
 loop-x-again g c =
@@ -25,5 +21,5 @@ unfolding reaching
 returns g c =
     let mark = c .args .mark in
     let days = map (g .T·NamesDay .named) (c .args .entries .now) in
-    let is = c .loop-x .inv ∙ ap (lowest (reaches mark days)) (take-all _ days (rw length-map (c .loop-x-test .left))) in
+    let is = lowest-over (reaches mark days) days (c .loop-x .x-index) (c .loop-x .best) (rw length-map (c .loop-x-test .left)) (c .loop-x .inv) in
     record { is = is; means = subst (Lowest-reaching mark days) (sym is) (reaching-means mark days) }

@@ -1,0 +1,8 @@
+pub mod Alone
+pub mod Folding
+pub mod Gathering
+pub mod Leading
+pub mod Placing
+pub mod Relaying
+pub mod Agreeing
+pub mod Spending

@@ -1,0 +1,4 @@
+pub mod Trees
+pub mod Plans
+pub mod Totals
+pub mod Descent

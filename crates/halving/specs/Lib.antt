@@ -1,0 +1,3 @@
+pub mod Frozen
+pub mod Execution
+pub mod Theorems
