@@ -17,7 +17,7 @@ agrees = record {
 }
 
 -- a seat's share of the bound
-pub some-share : (k : ℕ) → 1 ≤ k → 11 ≤ 22 * (k * k)
+some-share : (k : ℕ) → 1 ≤ k → 11 ≤ 22 * (k * k)
 some-share zero h = absurd (omega arith)
 some-share (suc k) h = omega arith
 

@@ -80,3 +80,22 @@ pub trait BaseAgreement {
         requires { ⌜ kept (now seat) ⌝ }
         ensures { λ r. ⌜ r ≡ meaning .day (now (seat .entry)) ⌝ };
 }
+
+// The most seats of a base agreement: 1 to 4.
+pub fn most_seats<A: BaseAgreement>() -> u32
+    ensures is { λ r. ⌜ r ≡ meaning .most ⌝ }
+    ensures some { λ r. ⌜ 1 ≤ r ⌝ }
+    ensures few { λ r. ⌜ r ≤ 4 ⌝ }
+{
+    A::max_seats()
+}
+
+// The rounds of a base agreement: at most 16, and at least one where several seats are to agree.
+pub fn rounds_among<A: BaseAgreement>(seats: u32) -> u32
+    requires { ⌜ Seats meaning seats ⌝ }
+    ensures is { λ r. ⌜ r ≡ meaning .rounds seats ⌝ }
+    ensures short { λ r. ⌜ r ≤ 16 ⌝ }
+    ensures some { λ r. ⌜ (2 ≤ seats → 1 ≤ r) ⌝ }
+{
+    A::rounds(seats)
+}
