@@ -1,6 +1,8 @@
 -- The plan: which committee is at which part of its work in which round.
+use mathlib.Core.Bool.{Bool, _&&_}
 use mathlib.Core.List.{List, [], _∷_, _++_, map}
-use Prim.Native.Nat.{ℕ, zero, suc, _+_, _*_}
+use Prim.Native.Nat.{ℕ, zero, suc, _+_, _-_, _*_}
+use lib.Dec.{leb, ltb}
 use Rattle.std.specs.Iters.{counting}
 use Rattle.committee.specs.declared.stages.Committee.{Committee}
 use Rattle.committee.specs.declared.stages.Part.{Part}
@@ -17,6 +19,21 @@ duration base graded (node lo s l r) = suc (graded s + duration base graded l) +
 -- the committee of a tree, by its number and its depth
 abbrev pub committee-of : ℕ → ℕ → Tree → Committee
 committee-of w d tree = record { number = w; depth = d; first = low tree; size = size tree }
+
+-- who sends in a round: the half that reports, or else the committee; the committee hears
+abbrev pub senders-in : Part → Committee → Committee → Committee
+senders-in FirstGraded c half = c
+senders-in FirstReport c half = half
+senders-in SecondGraded c half = c
+senders-in SecondReport c half = half
+senders-in Base c half = c
+
+abbrev pub senders-of : Stage → Committee
+senders-of st = senders-in (st .part) (st .committee) (st .half)
+
+-- the party sits in the committee
+abbrev pub sits : Committee → ℕ → Bool
+sits c p = leb (c .first) p && ltb (p - c .first) (c .size)
 
 -- rounds 1 to n of a part, in the turn of a half
 abbrev pub rounds-of : ℕ → Committee → Committee → Part → List Stage

@@ -1,9 +1,10 @@
-// Finding the stage of a round, by going down through the committees.
+// Finding the stage of a round, by going down through the committees, and who sends in it.
 ghost use mathlib.Core.Path.{_≡_};
 ghost use Prim.Native.Nat.{ℕ, _+_, _*_, _≤_, _<_};
 ghost use lib.ListN.{getD};
 ghost use Rattle.std.specs.declared.option.Option.the-variants.{Some};
 ghost use Rattle.std.specs.shelf.Maps.{nth};
+ghost use Rattle.committee.specs.Plan.{senders-of, sits};
 ghost use Rattle.committee.specs.Tree.{committees, bound as bound-of};
 ghost use Rattle.committee.specs.Numbers.{total-of, plan-of, everybody, first-half-of, second-half-of, Parties, Halvable, Fits};
 use crate::sizes::Sizes;
@@ -35,6 +36,27 @@ impl Committee {
             depth: self.depth + 1,
             first: self.first + (self.size - self.size / 2),
             size: self.size / 2,
+        }
+    }
+}
+
+impl Committee {
+    // Whether the party sits in it.
+    pub fn seats_party(&self, party: u32) -> bool
+        ensures { λ r. ⌜ r ≡ sits (now (self .entry)) party ⌝ }
+    {
+        party >= self.first && party - self.first < self.size
+    }
+}
+
+impl Stage {
+    // Who sends in this round: the half that reports, or else the committee. The committee hears.
+    pub fn senders(&self) -> Committee
+        ensures { λ r. ⌜ r ≡ senders-of (now (self .entry)) ⌝ }
+    {
+        match self.part {
+            Part::FirstReport | Part::SecondReport => self.half,
+            Part::FirstGraded | Part::SecondGraded | Part::Base => self.committee,
         }
     }
 }
