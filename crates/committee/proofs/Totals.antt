@@ -37,12 +37,14 @@ squares : (a b : ℕ) → (a ≡ b) ⊎ (a ≡ suc b) → 2 * (a * a + b * b) �
 squares a b (inl e) = rw e (omega arith)
 squares a b (inr e) = rw e (omega arith)
 
-halves-near : (s : ℕ) → (s - s / 2 ≡ s / 2) ⊎ (s - s / 2 ≡ suc (s / 2))
+halves-near : (s : ℕ) → (first-half s ≡ second-half s) ⊎ (first-half s ≡ suc (second-half s))
 halves-near s = ⊎-elim (λ less. inr (omega arith)) (λ same. inl (omega arith)) (cases-lt (s / 2) (s - s / 2))
 
-pub bound-few : (s x y : ℕ) → x + 11 ≤ 22 * ((s - s / 2) * (s - s / 2)) → y + 11 ≤ 22 * (s / 2 * (s / 2)) → 11 * (s * s) + (x + y) + 11 ≤ 22 * (s * s)
+-- the bounds of two halves leave room for 11s²
+pub bound-few : (s x y : ℕ) → x + 11 ≤ 22 * (first-half s * first-half s) → y + 11 ≤ 22 * (second-half s * second-half s)
+    → 11 * (s * s) + (x + y) + 11 ≤ 22 * (s * s)
 bound-few s x y hx hy =
-    let near = squares (s - s / 2) (s / 2) (halves-near s) in
-    let whole : (s - s / 2) + s / 2 ≡ s = omega arith in
-    let sq : 2 * ((s - s / 2) * (s - s / 2) + s / 2 * (s / 2)) ≤ s * s + 1 = rw whole at near in
+    let near = squares (first-half s) (second-half s) (halves-near s) in
+    let whole : first-half s + second-half s ≡ s = omega arith in
+    let sq : 2 * (first-half s * first-half s + second-half s * second-half s) ≤ s * s + 1 = rw whole at near in
     omega arith

@@ -27,7 +27,7 @@ use Rattle.committee.specs.Plan.{duration}
 use Rattle.committee.specs.Tree.{Tree, leaf, node, low, size, Split, Halved}
 use Rattle.halving.specs.Execution.{Honest-at, Run, trace, Turn, Small, Turns, turn-time, time, Exec}
 use Rattle.halving.specs.Theorems.{Only-grows, Hold-days, Executions-exist}
-use Rattle.halving.proofs.Timeline.{later}
+use Rattle.halving.proofs.Timeline.{was-honest}
 
 module _ (corrupt : ℕ → ℕ → Bool) (grows : Only-grows corrupt) where
   -- a play of any protocol on days
@@ -37,14 +37,6 @@ module _ (corrupt : ℕ → ℕ → Bool) (grows : Only-grows corrupt) where
       (λ i hi good. days i hi (subst (λ n. corrupt n (lo + i) ≡ false) (omega arith) good))
       (λ r i _ _ bad. subst (λ n. corrupt n (lo + i) ≡ true) (omega arith) (grows (t + r) (lo + i) bad)) in
       record { inbox = made .0; play = made .1 }
-
-  -- who is honest later is honest now
-  was-honest : (t t′ p : ℕ) → t ≤ t′ → Honest-at corrupt t′ p → Honest-at corrupt t p
-  was-honest t t′ p h good = go (cases-bool (corrupt t p))
-    where
-      go : (corrupt t p ≡ true) ⊎ (corrupt t p ≡ false) → corrupt t p ≡ false
-      go (inl bad) = absurd (both-ways (corrupt t′ p) good (later corrupt grows t t′ p h bad))
-      go (inr fine) = fine
 
   -- what a committee can be made to do: an execution, after which its honest parties hold days
   record Made (Part : (ℕ → ℕ) → Type 0) (end lo s : ℕ) : Type 0 where
@@ -151,7 +143,7 @@ module _ (corrupt : ℕ → ℕ → Bool) (grows : Only-grows corrupt) where
         speaks j true is hj e = absurd (let z : _≡_ {A = ℕ} 0 1 = cc in omega arith)
         speaks j false is hj e =
             let same : half .after (half-lo + j) ≡ v = cc in
-            subst Day same (half .days j hj (was-honest (t + g .protocol .rounds s + half-time) (suc (t + g .protocol .rounds s + half-time)) (half-lo + j) (omega arith) is))
+            subst Day same (half .days j hj (was-honest corrupt grows (t + g .protocol .rounds s + half-time) (suc (t + g .protocol .rounds s + half-time)) (half-lo + j) (omega arith) is))
 
         from : (j : ℕ) × (entry reports j ≡ Some v) → Day v
         from found = side (cases-lt (found .0) half-size)
@@ -168,7 +160,7 @@ module _ (corrupt : ℕ → ℕ → Bool) (grows : Only-grows corrupt) where
     after-days i hi good = go (cases-bool (grade-of g s (trace corrupt run) i))
       where
         own : Day (held (lo + i))
-        own = held-days i hi (was-honest (t + g .protocol .rounds s) (t + turn-time g s half-time) (lo + i) (omega arith) good)
+        own = held-days i hi (was-honest corrupt grows (t + g .protocol .rounds s) (t + turn-time g s half-time) (lo + i) (omega arith) good)
 
         go : (grade-of g s (trace corrupt run) i ≡ true) ⊎ (grade-of g s (trace corrupt run) i ≡ false) → Day (after (lo + i))
         go (inl e) = subst Day (sym (after-sure i e)) own

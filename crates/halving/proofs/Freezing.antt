@@ -17,6 +17,7 @@ use Rattle.protocol.specs.declared.Form.the-variants.{Listed, Certificate}
 use Rattle.protocol.specs.Protocol.{Protocol, Well-formed}
 use Rattle.protocol.specs.Play.{Trace, state, says, hears, form-of, Sends, Said, Possible, Played, Play}
 use Rattle.protocol.specs.Discipline.{Reached, Disciplined}
+use Rattle.protocol.proofs.Arriving.{arrives}
 use Rattle.halving.specs.Frozen.{frozen, Plays-freeze}
 
 -- a set with a member is not empty
@@ -49,14 +50,6 @@ module _ {R : Type 0} (p : Protocol R) (k : ℕ) (tr : Trace) (F : ℕ → Bool)
       where
         go : (tr .corrupt r i ≡ true) ⊎ (tr .corrupt r i ≡ false) → tr .corrupt r i ≡ false
         go (inl bad) = absurd (both-ways (F i) e (in-F r i h hi bad))
-        go (inr good) = good
-
-    -- who is honest when a round closes was so when it opened
-    opened-honest : (r i : ℕ) → r < p .rounds k → i < k → tr .corrupt (suc r) i ≡ false → tr .corrupt r i ≡ false
-    opened-honest r i h hi e = go (cases-bool (tr .corrupt r i))
-      where
-        go : (tr .corrupt r i ≡ true) ⊎ (tr .corrupt r i ≡ false) → tr .corrupt r i ≡ false
-        go (inl bad) = absurd (both-ways (tr .corrupt (suc r) i) e (play .stays r i h hi bad))
         go (inr good) = good
 
     -- a signature stands if its seat is in F, or outside F and has said the sentence
@@ -131,35 +124,24 @@ module _ {R : Type 0} (p : Protocol R) (k : ℕ) (tr : Trace) (F : ℕ → Bool)
         go Listed is = listed is (cases-eq s j)
         go Certificate is = passed (disciplined .behind tr play r t j m sends is s has)
 
-    -- what arrives from a seat that is honest when the round closes, that seat sends
-    sends-it : (r t j i : ℕ) (m : Message) → r < p .rounds k → t < p .topics → j < k → i < k → tr .corrupt (suc r) j ≡ false
-        → hears p k tr r t j i ≡ Some m → Sends p k tr r t j m
-    sends-it r t j i m hr ht hj hi good e = record {
-      a-round = hr;
-      a-topic = ht;
-      a-seat = hj;
-      honest = opened-honest r j hr hj good;
-      says-it = sym (play .from-honest r t j i hr ht hj hi good) ∙ e;
-    }
-
     -- every signature that a seat hears stands, in the rounds before n
     every : (n r t j i : ℕ) → r < n → r < p .rounds k → t < p .topics → j < k → i < k → (m : Message) → hears p k tr r t j i ≡ Some m
         → (s : ℕ) → s < k → member s (m .signers .mask) ≡ true → Stands (suc r) (p .kind (suc r) t) (m .day) s
     every zero r t j i hn hr ht hj hi m e s hs has = absurd (omega arith)
-    every (suc n) r t j i hn hr ht hj hi m e s hs has = who (cases-bool (tr .corrupt (suc r) j))
+    every (suc n) r t j i hn hr ht hj hi m e s hs has = who (arrives p k tr play r t j i m hr ht hj hi e)
         (λ it. every n (it .before) (it .topic) (it .sender) j (omega (arith, it .in-time)) (omega (arith, it .in-time)) (it .a-topic) (it .a-seat) hj
         (it .message) (it .heard) s hs (it .signed))
       where
-        who : (tr .corrupt (suc r) j ≡ true) ⊎ (tr .corrupt (suc r) j ≡ false)
+        who : Sends p k tr r t j m ⊎ Possible p k tr r t j m
             → ((it : Reached p k tr r (p .kind (suc r) t) (m .day) s j) → Stands (suc (it .before)) (p .kind (suc (it .before)) (it .topic)) (it .message .day) s)
             → Stands (suc r) (p .kind (suc r) t) (m .day) s
-        who (inl bad) ih = either (play .from-corrupt r t j i hr ht hj hi bad m e .unforged s hs has)
+        who (inr can) ih = either (can .unforged s hs has)
           where
             either : (tr .corrupt (suc r) s ≡ true) ⊎ Said p k tr (suc r) (p .kind (suc r) t) (m .day) s → Stands (suc r) (p .kind (suc r) t) (m .day) s
             either (inl c) = inl (in-F (suc r) s hr hs c)
             either (inr it) = still-said (suc r) (p .kind (suc r) t) (m .day) s it
-        who (inr good) ih =
-            by-honest r t j m (sends-it r t j i m hr ht hj hi good e) s has
+        who (inl sends) ih =
+            by-honest r t j m sends s has
             (λ it. stands-later (suc (it .before)) (suc r) (p .kind (suc r) t) (m .day) s (omega (arith, it .in-time))
             (subst (λ d. Stands (suc (it .before)) (p .kind (suc r) t) d s) (it .on-day)
             (subst (λ about. Stands (suc (it .before)) about (it .message .day) s) (it .of-kind) (ih it))))
@@ -174,17 +156,15 @@ module _ {R : Type 0} (p : Protocol R) (k : ℕ) (tr : Trace) (F : ℕ → Bool)
 
     possible : (r t j i : ℕ) → r < p .rounds k → t < p .topics → j < k → i < k → (m : Message) → hears p k tr r t j i ≡ Some m
         → Possible p k (frozen F tr) r t j m
-    possible r t j i hr ht hj hi m e = who (cases-bool (tr .corrupt (suc r) j))
+    possible r t j i hr ht hj hi m e = who (arrives p k tr play r t j i m hr ht hj hi e)
       where
         stands : (s : ℕ) → s < k → member s (m .signers .mask) ≡ true → Stands (suc r) (p .kind (suc r) t) (m .day) s
         stands = every (suc r) r t j i (omega arith) hr ht hj hi m e
 
-        who : (tr .corrupt (suc r) j ≡ true) ⊎ (tr .corrupt (suc r) j ≡ false) → Possible p k (frozen F tr) r t j m
-        who (inl bad) =
-            let can = play .from-corrupt r t j i hr ht hj hi bad m e in
+        who : Sends p k tr r t j m ⊎ Possible p k tr r t j m → Possible p k (frozen F tr) r t j m
+        who (inr can) =
             record { a-day = can .a-day; has-signers = can .has-signers; the-form = can .the-form; formed = can .formed; unforged = stands }
-        who (inr good) =
-            let sends = sends-it r t j i m hr ht hj hi good e in
+        who (inl sends) =
             let formed = disciplined .formed tr play r t j m sends in
             record {
               a-day = disciplined .a-day tr play r t j m sends;

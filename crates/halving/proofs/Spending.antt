@@ -1,11 +1,9 @@
 -- What an execution costs: two gradings, two halves and their reports stay within the bound, and the bound within 22s² − 11.
-use mathlib.Core.Path.{_≡_, refl}
+use mathlib.Core.Path.{_≡_, subst}
 use mathlib.Core.Bool.{Bool, not}
-use mathlib.Core.Logic.{_⊎_, inl, inr}
 use Prim.Native.Nat.{ℕ, suc, _+_, _-_, _*_, _/_, _≤_, _<_}
 use native.Mathlib.Nat.{mul-le-mul-right, mul-le-mul-left}
 use native.Mathlib.Omega.{arith}
-use Rattle.std.proofs.shelf.Tests.{cases-lt}
 use Rattle.message.specs.Count.{count}
 use Rattle.message.proofs.Counting.{count-le}
 use Rattle.protocol.specs.Play.{Trace, Play}
@@ -13,29 +11,10 @@ use Rattle.protocol.specs.Cost.{signatures}
 use Rattle.protocol.specs.Grading.{Grading}
 use Rattle.protocol.specs.Agreement.{Meaning, Within-bound, Stays-within-bound}
 use Rattle.committee.specs.Plan.{duration}
-use Rattle.committee.specs.Tree.{Tree, leaf, node, low, size, Split, Halved, bound}
+use Rattle.committee.specs.Tree.{Tree, leaf, node, low, size, Halved, bound}
+use Rattle.committee.proofs.Totals.{bound-few}
 use Rattle.halving.specs.Execution.{turn-time, time, Exec, spent}
 use Rattle.halving.specs.Theorems.{Halving-stays-within-bound}
-
--- the squares of two halves
-squares : (a c : ℕ) → (a ≡ c) ⊎ (a ≡ suc c) → 2 * (a * a + c * c) ≤ (a + c) * (a + c) + 1
-squares a c (inl e) = rw e (omega arith)
-squares a c (inr e) = rw e (omega arith)
-
-near : (lo s : ℕ) (l r : Tree) → Split lo s l r → (size l ≡ size r) ⊎ (size l ≡ suc (size r))
-near lo s l r split = go (cases-lt (size r) (size l))
-  where
-    go : (size r < size l) ⊎ (size l ≤ size r) → (size l ≡ size r) ⊎ (size l ≡ suc (size r))
-    go (inl h) = inr (omega (arith, split .left-size, split .right-size))
-    go (inr h) = inl (omega (arith, split .left-size, split .right-size))
-
--- the bounds of two halves leave room for 11s²
-halved-bound : (s a c x y : ℕ) → s ≡ a + c → (a ≡ c) ⊎ (a ≡ suc c) → x + 11 ≤ 22 * (a * a) → y + 11 ≤ 22 * (c * c)
-    → 11 * (s * s) + x + y + 11 ≤ 22 * (s * s)
-halved-bound s a c x y e near hx hy =
-    let sq = squares a c near in
-    let whole : s * s ≡ (a + c) * (a + c) = rw e refl in
-    omega arith
 
 pub bound-within : (most : ℕ) (tree : Tree) → Halved most tree → Within-bound (size tree) (bound tree)
 unfolding Halved bound
@@ -43,9 +22,9 @@ bound-within most (leaf lo s) fits =
     let some : 1 ≤ s * s = omega (arith, mul-le-mul-left s (fits .0)) in
     omega arith
 bound-within most (node lo s l r) fits =
-    let split = fits .1 in
-    halved-bound s (size l) (size r) (bound l) (bound r) (omega (arith, split .left-size, split .right-size)) (near lo s l r split)
-    (bound-within most l (fits .2)) (bound-within most r (fits .3))
+    let left = subst (λ n. bound l + 11 ≤ 22 * (n * n)) (fits .1 .left-size) (bound-within most l (fits .2)) in
+    let right = subst (λ n. bound r + 11 ≤ 22 * (n * n)) (fits .1 .right-size) (bound-within most r (fits .3)) in
+    omega (arith, bound-few s (bound l) (bound r) left right)
 
 -- two gradings and the reports cost at most 11s²
 turns : (s a c g g′ x y p q bx by : ℕ) → s ≡ a + c → g ≤ 5 * (s * s) → g′ ≤ 5 * (s * s) → x ≤ bx → y ≤ by → p ≤ a * s → q ≤ c * s

@@ -12,8 +12,16 @@ module _ (corrupt : ℕ → ℕ → Bool) (grows : Only-grows corrupt) where
   later-by zero t p bad = subst (λ x. corrupt x p ≡ true) (omega arith) bad
   later-by (suc n) t p bad = subst (λ x. corrupt x p ≡ true) (omega arith) (grows (n + t) p (later-by n t p bad))
 
-  pub later : (t t′ p : ℕ) → t ≤ t′ → corrupt t p ≡ true → corrupt t′ p ≡ true
+  later : (t t′ p : ℕ) → t ≤ t′ → corrupt t p ≡ true → corrupt t′ p ≡ true
   later t t′ p h bad = subst (λ x. corrupt x p ≡ true) (omega arith) (later-by (t′ - t) t p bad)
+
+  -- who is honest later is honest now
+  pub was-honest : (t t′ p : ℕ) → t ≤ t′ → corrupt t′ p ≡ false → corrupt t p ≡ false
+  was-honest t t′ p h good = go (cases-bool (corrupt t p))
+    where
+      go : (corrupt t p ≡ true) ⊎ (corrupt t p ≡ false) → corrupt t p ≡ false
+      go (inl bad) = absurd (both-ways (corrupt t′ p) good (later t t′ p h bad))
+      go (inr fine) = fine
 
   -- at time t, whoever of s parties from lo on is corrupt is in F
   abbrev pub Within : (ℕ → Bool) → ℕ → ℕ → ℕ → Type 0

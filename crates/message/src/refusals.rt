@@ -1,9 +1,10 @@
 // Why a call or a script is refused, and which layer says so.
 ghost use mathlib.Core.Path.{_≡_};
+ghost use lib.Dec.{eqb};
 ghost use Rattle.message.specs.Table.{number-of, word-of};
 
 // A rule that a call or a script breaks. The numbers are those that callers and scripts are answered with.
-#[derive(Clone, Copy, PartialEq, Eq, Debug)]
+#[derive(Clone, Copy, Eq, Debug)]
 pub enum Refusal {
     PartiesOutOfRange = 1,
     LimitAboveParties = 2,
@@ -32,6 +33,15 @@ impl Refusal {
         ensures { λ r. ⌜ r ≡ number-of self ⌝ }
     {
         self as u8
+    }
+}
+
+// Refusals are the same if their numbers are; the derived comparison would tell a proof nothing, for it has too many cases.
+pub impl PartialEq<Refusal> for Refusal as RefusalPartialEq {
+    ghost equals = { λ x y r. r ≡ eqb (number-of x) (number-of y) };
+
+    fn eq(&self, other: &Refusal) -> bool {
+        self.number() == other.number()
     }
 }
 
