@@ -1,4 +1,4 @@
-// The account as text: who says what to whom, what each honest party then believes, and what it leaves with.
+// The graded agreement as text: who says what to whom, what each honest party then believes, and what it leaves with.
 ghost use Prim.Native.Nat.{_≤_};
 use crate::liar::LIAR;
 use crate::liar::lie;
@@ -7,9 +7,31 @@ use crate::parties::PARTIES;
 use crate::parties::Party;
 use graded::table::Role;
 use message::Message;
+use message::sets::MOST_PARTIES;
 use message::sets::quorum;
 use std::fmt;
 use std::io;
+
+// A message: its day, and its signers where there are several.
+#[derive(Clone, Copy)]
+pub(crate) struct Signed(pub(crate) Message);
+
+pub(crate) impl fmt::Display for Signed as SignedDisplay {
+    fn fmt<W: fmt::Write>(&self, f: &mut fmt::Formatter<W>) -> fmt::Result {
+        let Message { day, signers } = self.0;
+        write!(f, "{day}")?;
+        // one who signs alone speaks for itself, and is named in the line already
+        if signers.len() > 1 {
+            f.write_str(", signed by")?;
+            for signer in 0..MOST_PARTIES {
+                if signers.contains(signer) {
+                    write!(f, " {signer}")?;
+                }
+            }
+        }
+        Ok(())
+    }
+}
 
 // A message and its role, which tells a vote from an echo.
 #[derive(Clone, Copy)]
@@ -21,18 +43,8 @@ struct Saying {
 impl fmt::Display for Saying as SayingDisplay {
     fn fmt<W: fmt::Write>(&self, f: &mut fmt::Formatter<W>) -> fmt::Result {
         let name = name(self.role);
-        let Message { day, signers } = self.message;
-        write!(f, "{name} {day}")?;
-        // one who signs alone speaks for itself, and is named in the line already
-        if signers.len() > 1 {
-            f.write_str(", signed by")?;
-            for party in 0..PARTIES {
-                if signers.contains(party) {
-                    write!(f, " {party}")?;
-                }
-            }
-        }
-        Ok(())
+        let signed = Signed(self.message);
+        write!(f, "{name} {signed}")
     }
 }
 
@@ -57,9 +69,13 @@ pub(crate) fn opening(rt: &LibcRuntime) -> io::Result<()> {
     )
 }
 
+pub(crate) fn heading(rt: &LibcRuntime, round: u32) -> io::Result<()> {
+    println!(rt, "round {round}")
+}
+
 // What everybody says in a round.
 pub(crate) fn speech(rt: &LibcRuntime, round: u32, honest: &[Party; 4]) -> io::Result<()> {
-    println!(rt, "round {round}")?;
+    heading(rt, round)?;
     for topic in 0..2 {
         if let Some(role) = Role::at(round, topic) {
             words_to_all(rt, role, honest)?;
