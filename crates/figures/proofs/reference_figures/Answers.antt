@@ -1,0 +1,5 @@
+use Rattle.figures.proofs.Drawn.{drawn}
+use Rattle.figures.proofs.reference_figures.Needs as need
+
+pub returns : need.returns
+returns _ = drawn

@@ -1,0 +1,9 @@
+pub mod Slots
+pub mod Unique
+pub mod Fitting
+pub mod Refusing
+pub mod Checks
+pub mod Acting
+pub mod Outcomes
+pub mod Histories
+pub mod Room

@@ -1,0 +1,32 @@
+// Executions as their rules see them: what each call does, when it is refused, and what holds of every history of calls; theory alone, for
+// every lawful base agreement. Each function carries a theorem; its proof is what the check asks for.
+ghost use Rattle.runs.specs.Theorems.{Calls-have-one-outcome, Openings-follow-the-rules, Over-after-the-plan, Histories-keep-to-their-room};
+
+// The rules allow exactly one outcome of every call in every state, and it can be computed.
+pub fn calls_have_one_outcome<B, G>() -> u8
+    ensures { λ _. ⌜ Calls-have-one-outcome B G ⌝ }
+{
+    0
+}
+
+// In an opened execution the first round of the plan is open, as the rules say of every round, whatever the wire held.
+pub fn openings_follow_the_rules<B, G>() -> u8
+    ensures { λ _. ⌜ Openings-follow-the-rules B G ⌝ }
+{
+    0
+}
+
+// In every history an execution is over exactly when all rounds of the plan have closed, and then every honest party has a decision.
+pub fn over_after_the_plan<B, G>() -> u8
+    ensures { λ _. ⌜ Over-after-the-plan B G ⌝ }
+{
+    0
+}
+
+// In every history at most as many parties are corrupt as may be, slots that do not belong to the execution keep what they held, and the
+// others are empty when it is over.
+pub fn histories_keep_to_their_room<B, G>() -> u8
+    ensures { λ _. ⌜ Histories-keep-to-their-room B G ⌝ }
+{
+    0
+}
