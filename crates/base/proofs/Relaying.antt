@@ -15,7 +15,7 @@ use Rattle.std.proofs.shelf.Lists.{getD-past}
 use Rattle.std.proofs.shelf.Tests.{cases-bool, cases-eq, cases-lt, ltb-true}
 use Rattle.message.specs.declared.Message.{Message}
 use Rattle.message.specs.Members.{member}
-use Rattle.message.specs.Tally.{Day, slot-day, entry}
+use Rattle.message.specs.Tally.{Day, slot-day}
 use Rattle.message.proofs.Masks.{member-only, member-two}
 use Rattle.protocol.specs.declared.Form.the-variants.{Listed}
 use Rattle.protocol.specs.Protocol.{Inbox, Protocol}

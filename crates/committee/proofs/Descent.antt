@@ -1,7 +1,7 @@
 -- Going down through the committees: the numbers of halves stay small, and a round of a half is a round of its committee.
-use mathlib.Core.Path.{_≡_, refl, sym, _∙_, ap, subst}
+use mathlib.Core.Path.{_≡_, sym, _∙_, ap}
 use mathlib.Core.Logic.{_⊎_, inl, inr}
-use Prim.Native.Nat.{ℕ, zero, suc, _+_, _-_, _*_, _/_, _^_, _≤_, _<_}
+use Prim.Native.Nat.{ℕ, suc, _+_, _-_, _*_, _^_, _≤_, _<_}
 use native.Mathlib.Nat.{mul-le-mul-left, pow-suc}
 use native.Mathlib.Numerals.{add-one}
 use native.Mathlib.Omega.{arith}
@@ -12,7 +12,7 @@ use Rattle.std.proofs.shelf.Tests.{cases-eq}
 use Rattle.committee.specs.declared.sizes.Sizes.{Sizes}
 use Rattle.committee.specs.declared.stages.Committee.{Committee}
 use Rattle.committee.specs.declared.stages.Part.the-variants.{FirstGraded, FirstReport, SecondGraded, SecondReport, Base}
-use Rattle.committee.specs.Tree.{Tree, leaf, node, low, size, first-half, second-half, committees}
+use Rattle.committee.specs.Tree.{Tree, node, size, first-half, second-half, committees}
 use Rattle.committee.specs.Plan.{duration, committee-of, plan}
 use Rattle.committee.specs.Numbers.{base-rounds, graded-rounds, total-of, plan-of, first-half-of, second-half-of, Halvable, Fits}
 use Rattle.committee.proofs.Trees.{small, large, committee-low, committee-size}

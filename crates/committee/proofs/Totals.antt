@@ -1,5 +1,5 @@
 -- How many rounds and signatures a committee of so many parties takes, from what its halves take.
-use mathlib.Core.Path.{_≡_, refl, sym, _∙_, ap}
+use mathlib.Core.Path.{_≡_, _∙_, ap}
 use mathlib.Core.Logic.{_⊎_, inl, inr, ⊎-elim}
 use Prim.Native.Nat.{ℕ, suc, _+_, _-_, _*_, _/_, _≤_, _<_}
 use native.Mathlib.Omega.{arith}
@@ -8,7 +8,7 @@ use Rattle.committee.specs.declared.sizes.Sizes.{Sizes}
 use Rattle.committee.specs.Tree.{first-half, second-half, committees, bound}
 use Rattle.committee.specs.Plan.{duration}
 use Rattle.committee.specs.Numbers.{base-rounds, graded-rounds, total-of}
-use Rattle.committee.proofs.Trees.{lasts-small, lasts-large, lasts-alike, bound-small, bound-large, bound-alike}
+use Rattle.committee.proofs.Trees.{lasts-small, lasts-large, lasts-alike, bound-large, bound-alike}
 
 module _ (z : Sizes) where
   pub lasts : (lo s : ℕ) → duration (base-rounds z) (graded-rounds z) (committees (z .most) lo s) ≡ total-of z s

@@ -1,12 +1,11 @@
 -- The tree of committees: it is halved as it should be, and it does not matter where it begins.
 use mathlib.Core.Path.{_≡_, refl, sym, _∙_, ap, subst}
-use mathlib.Core.Bool.{Bool, true, false}
-use mathlib.Core.Logic.{_⊎_, inl, inr, ⊎-elim}
-use Prim.Native.Nat.{ℕ, zero, suc, _+_, _-_, _*_, _/_, _≤_, _<_}
+use mathlib.Core.Bool.{true, false}
+use mathlib.Core.Logic.{⊎-elim}
+use Prim.Native.Nat.{ℕ, zero, suc, _+_, _-_, _*_, _≤_, _<_}
 use native.Mathlib.Omega.{arith}
-use lib.Dec.{leb}
 use Rattle.std.proofs.shelf.Tests.{cases-lt, le-leb, lt-leb}
-use Rattle.committee.specs.Tree.{Tree, leaf, node, low, size, first-half, second-half, Split, Halved, build, committees, bound}
+use Rattle.committee.specs.Tree.{Tree, leaf, node, low, size, first-half, second-half, Halved, build, committees, bound}
 use Rattle.committee.specs.Plan.{duration}
 
 module _ (most : ℕ) (some : 1 ≤ most) where

@@ -6,7 +6,7 @@ use Rattle.message.specs.Members.{most-parties}
 use Rattle.committee.specs.declared.sizes.Sizes.{Sizes}
 use Rattle.committee.specs.declared.stages.Committee.{Committee}
 use Rattle.committee.specs.declared.stages.Stage.{Stage}
-use Rattle.committee.specs.Tree.{Tree, first-half, second-half, committees}
+use Rattle.committee.specs.Tree.{first-half, second-half, committees}
 use Rattle.committee.specs.Plan.{duration, plan}
 
 -- the rounds of the base agreement among k seats

@@ -1,7 +1,7 @@
 -- The plan: which committee is at which part of its work in which round.
 use mathlib.Core.Bool.{Bool, _&&_}
 use mathlib.Core.List.{List, [], _∷_, _++_, map}
-use Prim.Native.Nat.{ℕ, zero, suc, _+_, _-_, _*_}
+use Prim.Native.Nat.{ℕ, suc, _+_, _-_, _*_}
 use lib.Dec.{leb, ltb}
 use Rattle.std.specs.Iters.{counting}
 use Rattle.committee.specs.declared.stages.Committee.{Committee}

@@ -1,6 +1,5 @@
 -- Each figure is what the rules compute to.
-use mathlib.Core.Path.{_≡_, refl}
-use Rattle.std.specs.Iters.{counting}
+use mathlib.Core.Path.{refl}
 use Rattle.message.specs.Count.{count, sum}
 use Rattle.message.specs.Members.{member, gathered}
 use Rattle.message.specs.Tally.{tally, others, lowest, reaching}

@@ -1,7 +1,7 @@
 -- The reference figures: small executions, call by call, and what they come to.
 use mathlib.Core.Path.{_≡_}
 use mathlib.Core.List.{List, [], _∷_, _++_, map}
-use Prim.Native.Nat.{ℕ, _+_, _*_}
+use Prim.Native.Nat.{ℕ}
 use lib.ListN.{length, replicate}
 use Rattle.std.specs.declared.option.Option.the-variants.{None}
 use Rattle.graded.specs.declared.seats.Seat.{Seat}
@@ -12,7 +12,7 @@ use Rattle.message.specs.Members.{quorum}
 use Rattle.protocol.specs.Agreement.{Meaning}
 use Rattle.runs.specs.State.{State, room}
 use Rattle.runs.specs.Calls.{Call, corrupts, injects, closes, reads-decision, reads-signatures, Over}
-use Rattle.runs.specs.Rules.{Answer, refused, done, reads}
+use Rattle.runs.specs.Rules.{refused, done, reads}
 use Rattle.runs.specs.Machine.{after, answer}
 use Rattle.runs.specs.History.{opened}
 use Rattle.runs.specs.Theorems.{rounds-among}

@@ -1,7 +1,6 @@
 -- The discipline of honest seats in the four rounds, put together.
 use mathlib.Core.Path.{_≡_, refl, sym, _∙_, ap}
-use mathlib.Core.Logic.{_⊎_, inl, inr}
-use Prim.Native.Nat.{ℕ, zero, suc, _^_, _≤_, _<_}
+use Prim.Native.Nat.{ℕ, zero, suc, _^_}
 use native.Mathlib.Omega.{arith}
 use Rattle.std.specs.declared.option.Option.{Option}
 use Rattle.std.specs.declared.option.Option.the-variants.{Some, None}
@@ -12,11 +11,11 @@ use Rattle.protocol.specs.declared.Form.{Form}
 use Rattle.protocol.specs.declared.Form.the-variants.{Listed}
 use Rattle.protocol.specs.Play.{Trace, says, form-of, Sends, Play}
 use Rattle.protocol.specs.Discipline.{Disciplined}
-use Rattle.graded.specs.Roles.{role-at, form, kind, word-form, certificate-form}
+use Rattle.graded.specs.Roles.{form, kind, word-form, certificate-form}
 use Rattle.graded.specs.Facts.{Keeps-discipline}
 use Rattle.graded.proofs.Reading.{word-formed, formed-certificate}
 use Rattle.graded.proofs.Hearing.{P}
-use Rattle.graded.proofs.Speech.{Word, formed, listed-is-word, certificate-is-bundle, reached}
+use Rattle.graded.proofs.Speech.{formed, listed-is-word, certificate-is-bundle, reached}
 use Rattle.graded.proofs.Ranges.{sends-day, leaves}
 
 -- there is one round, and one topic, for the words of each kind

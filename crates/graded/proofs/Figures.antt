@@ -1,11 +1,10 @@
 -- The steps are those of Figure 2, whatever arrives.
-use mathlib.Core.Path.{_≡_, refl, sym, _∙_, ap, subst}
-use mathlib.Core.Bool.{Bool, true, false}
+use mathlib.Core.Path.{_≡_, refl, sym, _∙_, ap}
+use mathlib.Core.Bool.{true, false}
 use mathlib.Core.List.{List}
-use mathlib.Core.Logic.{_⊎_, inl, inr, _↔_}
-use Prim.Native.Nat.{ℕ, zero, suc, _+_, _^_, _≤_, _<_}
+use mathlib.Core.Logic.{_⊎_, inl, inr}
+use Prim.Native.Nat.{ℕ, _^_, _≤_, _<_}
 use native.Mathlib.Omega.{arith}
-use lib.Dec.{ltb}
 use lib.ListN.{length}
 use Rattle.std.specs.Options.{isSome, valueOr}
 use Rattle.std.specs.declared.option.Option.{Option}
@@ -13,17 +12,13 @@ use Rattle.std.specs.declared.option.Option.the-variants.{Some, None}
 use Rattle.std.proofs.shelf.Lists.{getD-past}
 use Rattle.std.proofs.shelf.Tests.{cases-lt, cases-order, both-ways, lt-ltb}
 use Rattle.message.specs.declared.Message.{Message}
-use Rattle.message.specs.Members.{member, Holds, quorum, gathered}
+use Rattle.message.specs.Members.{member, Holds, quorum}
 use Rattle.message.specs.Tally.{before, slot-day, names, entry, tally, reaching, Lowest-reaching}
 use Rattle.message.proofs.Masks.{same-set, none-above, gathered-below, member-gathered}
-use Rattle.protocol.specs.Protocol.{Inbox}
 use Rattle.protocol.specs.Inboxes.{under, days}
 use Rattle.protocol.proofs.Reading.{few-entries}
-use Rattle.graded.specs.declared.seats.Seat.{Seat}
-use Rattle.graded.specs.declared.table.Role.{Role}
-use Rattle.graded.specs.Roles.{role-at}
-use Rattle.graded.specs.Steps.{word, who-named, certificate, unless-disputed, start, says-at, send, outcome}
-use Rattle.graded.specs.Figure.{Signed-alone, Certified, Figure-2, Follows-figure-2, after-4}
+use Rattle.graded.specs.Steps.{word, who-named, certificate, unless-disputed, says-at}
+use Rattle.graded.specs.Figure.{Signed-alone, Certified, Follows-figure-2}
 use Rattle.message.proofs.Tallying.{reaching-means, reaching-has, reaching-only}
 use Rattle.graded.proofs.Reading.{signed-is, is-signed, certificate-day}
 use Rattle.graded.proofs.Grades.{undisputed-is, is-undisputed}

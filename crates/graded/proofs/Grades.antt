@@ -1,9 +1,9 @@
 -- Why Figure 2 grades, said of what seats hear from one another, whoever has them hear it.
 use mathlib.Core.Path.{_≡_, refl, sym, _∙_, ap}
-use mathlib.Core.Bool.{Bool, true, false, not, cond}
+use mathlib.Core.Bool.{Bool, true, false, not}
 use mathlib.Core.List.{List}
 use mathlib.Core.Logic.{_⊎_, inl, inr}
-use Prim.Native.Nat.{ℕ, _+_, _*_, _/_, _≤_, _<_}
+use Prim.Native.Nat.{ℕ, _*_, _≤_, _<_}
 use native.Mathlib.Omega.{arith}
 use lib.Dec.{eqb}
 use lib.ListN.{length}
@@ -14,7 +14,7 @@ use Rattle.std.proofs.shelf.Lists.{getD-past}
 use Rattle.std.proofs.shelf.Tests.{cases-bool, cases-lt, both-ways, eq-eqb, eqb-true, not-true, not-false, cond-true}
 use Rattle.message.specs.Count.{count}
 use Rattle.message.specs.Members.{quorum}
-use Rattle.message.specs.Tally.{names, differs, entry, tally, others, reaching}
+use Rattle.message.specs.Tally.{names, differs, entry, others, reaching}
 use Rattle.message.proofs.Counting.{count-more, count-mono, count-not, count-zero, count-none}
 use Rattle.message.proofs.Tallying.{names-is, is-names, tally-upto, reaching-has, reaching-only, reaching-one}
 use Rattle.graded.specs.Steps.{unless-disputed}

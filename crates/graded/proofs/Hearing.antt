@@ -3,20 +3,20 @@ use mathlib.Core.Path.{_≡_, refl, sym, _∙_, ap}
 use mathlib.Core.Bool.{Bool, true, false}
 use mathlib.Core.List.{List}
 use mathlib.Core.Logic.{_⊎_, inl, inr}
-use Prim.Native.Nat.{ℕ, zero, suc, _+_, _*_, _^_, _≤_, _<_}
+use Prim.Native.Nat.{ℕ, zero, suc, _*_, _^_, _≤_, _<_}
 use native.Mathlib.Omega.{arith}
 use Rattle.std.specs.declared.option.Option.{Option}
-use Rattle.std.specs.declared.option.Option.the-variants.{Some, None}
+use Rattle.std.specs.declared.option.Option.the-variants.{Some}
 use Rattle.std.proofs.shelf.Tests.{cases-bool, both-ways}
 use Rattle.message.specs.declared.Message.{Message}
 use Rattle.message.specs.Count.{count}
 use Rattle.message.specs.Members.{member, quorum}
 use Rattle.message.specs.Tally.{slot-day, entry, reaching}
 use Rattle.protocol.specs.declared.Form.the-variants.{Listed}
-use Rattle.protocol.specs.Protocol.{Protocol, arrived}
-use Rattle.protocol.specs.Play.{Trace, state, says, hears, form-of, Said, Possible, Play, Ends-honest, Fewer-than-one-in}
+use Rattle.protocol.specs.Protocol.{Protocol}
+use Rattle.protocol.specs.Play.{Trace, state, says, hears, form-of, Said, Play}
 use Rattle.protocol.specs.Inboxes.{under, days}
-use Rattle.protocol.specs.Grading.{Graded, day-of, grade-of}
+use Rattle.protocol.specs.Grading.{Graded}
 use Rattle.protocol.proofs.Reading.{entry-of, all-entries, slot-names}
 use Rattle.protocol.proofs.Arriving.{was-honest}
 use Rattle.graded.specs.declared.seats.Seat.{Seat}

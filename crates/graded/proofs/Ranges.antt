@@ -1,6 +1,6 @@
 -- In a play of the four rounds, what honest seats keep, say and leave with is on days.
 use mathlib.Core.Path.{_≡_, refl, sym, _∙_, ap, subst}
-use mathlib.Core.Bool.{Bool, true, false, cond}
+use mathlib.Core.Bool.{true, false}
 use mathlib.Core.List.{List}
 use mathlib.Core.Logic.{_⊎_, inl, inr}
 use Prim.Native.Nat.{ℕ, zero, suc, _≤_, _<_}
@@ -14,7 +14,7 @@ use Rattle.message.specs.declared.Message.{Message}
 use Rattle.message.specs.Members.{quorum}
 use Rattle.message.specs.Tally.{Day, slot-day, entry, reaching}
 use Rattle.protocol.specs.Protocol.{Inbox}
-use Rattle.protocol.specs.Play.{Trace, state, says, hears, Sends, Play}
+use Rattle.protocol.specs.Play.{Trace, state, hears, Sends, Play}
 use Rattle.protocol.specs.Inboxes.{under, days}
 use Rattle.protocol.specs.Grading.{Leaves-with-days}
 use Rattle.protocol.proofs.Reading.{entry-of, few-entries, slot-names}
@@ -23,7 +23,7 @@ use Rattle.graded.specs.declared.seats.Seat.{Seat}
 use Rattle.graded.specs.declared.table.Role.{Role}
 use Rattle.graded.specs.declared.table.Role.the-variants.{Echo, EchoCertificate, Vote, VoteCertificate, SecondVote}
 use Rattle.graded.specs.Roles.{role-at}
-use Rattle.graded.specs.Steps.{signed-by, certificate, unless-disputed, start, says-at, send, hear, four-rounds}
+use Rattle.graded.specs.Steps.{signed-by, certificate, unless-disputed, says-at, hear, four-rounds}
 use Rattle.message.proofs.Tallying.{reaching-named}
 use Rattle.graded.proofs.Reading.{certificate-day}
 use Rattle.graded.proofs.Grades.{undisputed-is}

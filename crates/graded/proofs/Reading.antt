@@ -1,6 +1,6 @@
 -- What words and certificates say, and what form they have.
 use mathlib.Core.Path.{_≡_, refl, sym, _∙_, ap, subst}
-use mathlib.Core.Bool.{Bool, true, false, cond, _&&_}
+use mathlib.Core.Bool.{true, false, _&&_}
 use mathlib.Core.List.{List}
 use mathlib.Core.Logic.{_⊎_, inl, inr}
 use Prim.Native.Nat.{ℕ, _^_, _≤_, _<_}
@@ -19,7 +19,7 @@ use Rattle.protocol.specs.declared.Form.the-variants.{Listed, Certificate}
 use Rattle.protocol.specs.Protocol.{Inbox}
 use Rattle.protocol.specs.Inboxes.{days}
 use Rattle.graded.specs.Roles.{word-form, certificate-form}
-use Rattle.graded.specs.Steps.{signed-by, word, who-named, certificate}
+use Rattle.graded.specs.Steps.{signed-by, who-named, certificate}
 
 -- who signs for a day says that day
 pub signed-day : (who : ℕ → ℕ) (o : Option ℕ) → slot-day (signed-by who o) ≡ o

@@ -1,33 +1,30 @@
 -- Honest seats keep discipline in the four rounds: what they say is their own word, or a certificate of words that reached them.
 use mathlib.Core.Path.{_≡_, refl, sym, _∙_, ap, subst}
-use mathlib.Core.Bool.{Bool, true}
+use mathlib.Core.Bool.{true}
 use mathlib.Core.List.{List}
 use mathlib.Core.Logic.{_⊎_, inl, inr}
-use Prim.Native.Nat.{ℕ, zero, suc, _+_, _*_, _^_, _≤_, _<_}
+use Prim.Native.Nat.{ℕ, zero, suc, _^_, _≤_, _<_}
 use native.Mathlib.Omega.{arith}
 use lib.ListN.{length}
 use Rattle.std.specs.declared.option.Option.{Option}
 use Rattle.std.specs.declared.option.Option.the-variants.{Some, None}
 use Rattle.std.proofs.shelf.Bits.{pow-below}
-use Rattle.std.proofs.shelf.Tests.{both-ways}
 use Rattle.message.specs.declared.Message.{Message}
 use Rattle.message.specs.Members.{member, size, quorum, gathered}
-use Rattle.message.specs.Tally.{Day, slot-day, names, entry, reaching, tally}
-use Rattle.message.proofs.Counting.{count-same}
-use Rattle.message.proofs.Masks.{member-own, member-only, member-below, gathered-below, member-gathered, size-gathered}
+use Rattle.message.specs.Tally.{slot-day, names, entry, reaching}
+use Rattle.message.proofs.Masks.{member-own, member-below, gathered-below, member-gathered, size-gathered}
 use Rattle.protocol.specs.declared.Form.{Form}
 use Rattle.protocol.specs.declared.Form.the-variants.{Listed, Certificate}
-use Rattle.protocol.specs.Protocol.{Protocol, Well-formed}
+use Rattle.protocol.specs.Protocol.{Well-formed}
 use Rattle.protocol.specs.Play.{Trace, state, says, hears, form-of, Sends, Possible, Play}
 use Rattle.protocol.specs.Inboxes.{under, days}
-use Rattle.protocol.specs.Discipline.{Reached, Disciplined}
+use Rattle.protocol.specs.Discipline.{Reached}
 use Rattle.protocol.proofs.Reading.{entry-of, few-entries, all-entries, slot-names}
 use Rattle.protocol.proofs.Arriving.{arrives}
-use Rattle.graded.specs.declared.seats.Seat.{Seat}
 use Rattle.graded.specs.declared.table.Role.{Role}
 use Rattle.graded.specs.declared.table.Role.the-variants.{Echo, EchoCertificate, Vote, VoteCertificate, SecondVote}
-use Rattle.graded.specs.Roles.{role-at, role-form, form-at, form, kind, word-form, certificate-form}
-use Rattle.graded.specs.Steps.{word, who-named, certificate, unless-disputed, four-rounds}
+use Rattle.graded.specs.Roles.{role-at, form-at, form, kind, word-form, certificate-form}
+use Rattle.graded.specs.Steps.{who-named, certificate, unless-disputed}
 use Rattle.message.proofs.Tallying.{names-is, reaching-has, tally-upto}
 use Rattle.graded.proofs.Reading.{signed-is, word-formed, formed-word, certificate-formed, formed-certificate}
 use Rattle.graded.proofs.Hearing.{P}

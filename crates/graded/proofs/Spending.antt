@@ -1,8 +1,7 @@
 -- The four rounds cost at most 5k² signatures: one copy of a message has at most one.
 use mathlib.Core.Path.{_≡_, refl, sym, _∙_, ap}
 use mathlib.Core.Bool.{Bool, true, false, cond, _&&_}
-use mathlib.Core.Logic.{_⊎_, inl, inr}
-use Prim.Native.Nat.{ℕ, zero, suc, _+_, _*_, _^_, _≤_, _<_}
+use Prim.Native.Nat.{ℕ, suc, _*_, _^_, _≤_}
 use native.Mathlib.Nat.{mul-le-mul-left}
 use native.Mathlib.Omega.{arith}
 use lib.Dec.{eqb, leb, ltb}
@@ -15,7 +14,7 @@ use Rattle.message.specs.Members.{member, size, quorum}
 use Rattle.message.proofs.Counting.{count-one, sum-bound}
 use Rattle.message.proofs.Masks.{member-only}
 use Rattle.protocol.specs.declared.Form.the-variants.{Listed, Certificate}
-use Rattle.protocol.specs.Play.{Trace, Play, says, form-of}
+use Rattle.protocol.specs.Play.{Trace, says}
 use Rattle.protocol.specs.Cost.{on-one-copy, cost-of, spent-in, signatures}
 use Rattle.graded.specs.declared.table.Role.{Role}
 use Rattle.graded.specs.declared.table.Role.the-variants.{Echo, EchoCertificate, Vote, VoteCertificate, SecondVote}

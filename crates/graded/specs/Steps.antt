@@ -10,7 +10,7 @@ use Rattle.std.specs.declared.option.Option.the-variants.{Some, None}
 use Rattle.message.specs.declared.Message.{Message}
 use Rattle.message.specs.Members.{gathered, quorum}
 use Rattle.message.specs.Tally.{slot-day, names, entry, others, reaching}
-use Rattle.protocol.specs.Protocol.{Inbox, Protocol}
+use Rattle.protocol.specs.Protocol.{Inbox}
 use Rattle.protocol.specs.Inboxes.{under, days}
 use Rattle.protocol.specs.Grading.{Grading}
 use Rattle.graded.specs.declared.seats.Seat.{Seat}

@@ -3,7 +3,7 @@ use mathlib.Core.Path.{_≡_, refl, sym, _∙_, ap, subst}
 use mathlib.Core.Bool.{Bool, true, false, cond}
 use mathlib.Core.List.{List, map}
 use mathlib.Core.Logic.{_⊎_, inl, inr}
-use Prim.Native.Nat.{ℕ, zero, suc, _+_, _-_, _*_, _/_, _≤_, _<_}
+use Prim.Native.Nat.{ℕ, suc, _+_, _-_, _*_, _≤_, _<_}
 use native.Mathlib.Omega.{arith}
 use lib.ListN.{length}
 use Rattle.std.specs.Iters.{counting}
@@ -12,20 +12,19 @@ use Rattle.std.specs.declared.option.Option.{Option}
 use Rattle.std.specs.declared.option.Option.the-variants.{Some, None}
 use Rattle.std.proofs.shelf.Counted.{getD-map-counting, length-map-counting}
 use Rattle.std.proofs.shelf.Lists.{getD-past}
-use Rattle.std.proofs.shelf.Tests.{cond-true, cond-false, cases-bool, cases-lt, both-ways}
+use Rattle.std.proofs.shelf.Tests.{cond-true, cond-false, cases-bool, cases-lt}
 use Rattle.message.specs.Count.{count}
 use Rattle.message.specs.Members.{quorum}
 use Rattle.message.specs.Tally.{Day, names, entry, tally, reaching}
 use Rattle.message.proofs.Counting.{count-same}
 use Rattle.message.proofs.Tallying.{tally-upto, reaching-has, reaching-only, reaching-named}
-use Rattle.protocol.specs.Protocol.{Inbox, Protocol}
-use Rattle.protocol.specs.Play.{Play}
+use Rattle.protocol.specs.Protocol.{Protocol}
 use Rattle.protocol.specs.Grading.{Grading, Leaves-with-days, day-of, grade-of}
 use Rattle.protocol.specs.Agreement.{Meaning, protocol-of, answer, Agrees}
 use Rattle.protocol.proofs.Continuing.{exist}
 use Rattle.committee.specs.Plan.{duration}
 use Rattle.committee.specs.Tree.{Tree, leaf, node, low, size, Split, Halved}
-use Rattle.halving.specs.Execution.{Honest-at, Run, trace, Turn, Small, Turns, turn-time, time, Exec}
+use Rattle.halving.specs.Execution.{Run, trace, Turn, Turns, turn-time, time, Exec}
 use Rattle.halving.specs.Theorems.{Only-grows, Hold-days, Executions-exist}
 use Rattle.halving.proofs.Timeline.{was-honest}
 

@@ -1,21 +1,19 @@
 -- A play stays one when those who are corrupt in the end are taken as corrupt from the start.
 use mathlib.Core.Path.{_≡_, refl, sym, _∙_, ap, subst}
 use mathlib.Core.Bool.{Bool, true, false}
-use mathlib.Core.Logic.{_⊎_, inl, inr, _≢_}
+use mathlib.Core.Logic.{_⊎_, inl, inr}
 use Prim.Native.Nat.{ℕ, zero, suc, _+_, _-_, _≤_, _<_}
 use native.Mathlib.Omega.{arith}
-use Rattle.std.specs.declared.option.Option.{Option}
-use Rattle.std.specs.declared.option.Option.the-variants.{Some, None}
+use Rattle.std.specs.declared.option.Option.the-variants.{Some}
 use Rattle.std.proofs.shelf.Tests.{cases-bool, cases-eq, both-ways}
 use Rattle.message.specs.declared.Message.{Message}
-use Rattle.message.specs.Members.{member, size, quorum}
-use Rattle.message.specs.Tally.{Day}
+use Rattle.message.specs.Members.{member}
 use Rattle.message.proofs.Counting.{count-some}
 use Rattle.message.proofs.Masks.{member-none}
 use Rattle.protocol.specs.declared.Form.{Form}
 use Rattle.protocol.specs.declared.Form.the-variants.{Listed, Certificate}
 use Rattle.protocol.specs.Protocol.{Protocol, Well-formed}
-use Rattle.protocol.specs.Play.{Trace, state, says, hears, form-of, Sends, Said, Possible, Played, Play}
+use Rattle.protocol.specs.Play.{Trace, state, says, hears, form-of, Sends, Said, Possible, Play}
 use Rattle.protocol.specs.Discipline.{Reached, Disciplined}
 use Rattle.protocol.proofs.Arriving.{arrives}
 use Rattle.halving.specs.Frozen.{frozen, Plays-freeze}

@@ -2,23 +2,20 @@
 use mathlib.Core.Path.{_≡_, refl, sym, _∙_, ap, subst}
 use mathlib.Core.Bool.{Bool, true, false, not}
 use mathlib.Core.Logic.{_⊎_, inl, inr}
-use Prim.Native.Nat.{ℕ, zero, suc, _+_, _*_, _/_, _≤_, _<_}
+use Prim.Native.Nat.{ℕ, suc, _+_, _*_, _≤_, _<_}
 use native.Mathlib.Nat.{mul-le-mul-right, mul-add}
 use native.Mathlib.Omega.{arith}
-use Rattle.std.specs.declared.option.Option.{Option}
-use Rattle.std.specs.declared.option.Option.the-variants.{Some, None}
 use Rattle.std.proofs.shelf.Tests.{cases-bool, cases-lt, eq-eqb, not-true}
 use Rattle.message.specs.Count.{count}
 use Rattle.message.specs.Tally.{names}
 use Rattle.message.proofs.Counting.{count-same, count-mono, count-not, count-append, count-more, count-all}
-use Rattle.protocol.specs.Protocol.{Protocol}
-use Rattle.protocol.specs.Play.{Trace, Play, state}
+use Rattle.protocol.specs.Play.{Trace, Play}
 use Rattle.protocol.specs.Grading.{Grading, day-of, grade-of}
 use Rattle.protocol.specs.Agreement.{Meaning, protocol-of, answer, Sized, Agrees, Keeps-discipline}
 use Rattle.committee.specs.Plan.{duration}
-use Rattle.committee.specs.Tree.{Tree, leaf, node, low, size, first-half, second-half, Split, Halved}
+use Rattle.committee.specs.Tree.{Tree, leaf, node, low, size, Split, Halved}
 use Rattle.halving.specs.Frozen.{frozen}
-use Rattle.halving.specs.Execution.{Honest-at, Run, trace, Turn, Small, Turns, turn-time, time, Exec}
+use Rattle.halving.specs.Execution.{Honest-at, trace, Turn, Small, turn-time, time, Exec}
 use Rattle.halving.specs.Theorems.{Only-grows, Few-in, Agreed, Lawful-grading, Halves-agree}
 use Rattle.halving.proofs.Freezing.{freeze, same-state}
 use Rattle.halving.proofs.Timeline.{Within, earlier, part, outside}

@@ -1,10 +1,9 @@
 -- What an execution costs: two gradings, two halves and their reports stay within the bound, and the bound within 22s² − 11.
 use mathlib.Core.Path.{_≡_, subst}
 use mathlib.Core.Bool.{Bool, not}
-use Prim.Native.Nat.{ℕ, suc, _+_, _-_, _*_, _/_, _≤_, _<_}
+use Prim.Native.Nat.{ℕ, _+_, _*_, _≤_}
 use native.Mathlib.Nat.{mul-le-mul-right, mul-le-mul-left}
 use native.Mathlib.Omega.{arith}
-use Rattle.message.specs.Count.{count}
 use Rattle.message.proofs.Counting.{count-le}
 use Rattle.protocol.specs.Play.{Trace, Play}
 use Rattle.protocol.specs.Cost.{signatures}

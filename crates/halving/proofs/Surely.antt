@@ -1,17 +1,14 @@
 -- An execution in which nobody is corrupt unites at the first report, so the second grading makes everybody sure.
-use mathlib.Core.Path.{_≡_, refl, sym, _∙_, ap, subst}
-use mathlib.Core.Bool.{Bool, true, false}
-use Prim.Native.Nat.{ℕ, suc, _+_, _*_, _≤_, _<_}
+use mathlib.Core.Path.{_≡_, refl}
+use mathlib.Core.Bool.{Bool, false}
+use Prim.Native.Nat.{ℕ, _+_, _≤_, _<_}
 use native.Mathlib.Nat.{mul-zero}
 use native.Mathlib.Omega.{arith}
 use Rattle.std.proofs.shelf.Tests.{both-ways}
-use Rattle.message.specs.Count.{count}
 use Rattle.message.proofs.Counting.{count-none}
-use Rattle.protocol.specs.Grading.{Grading, grade-of}
-use Rattle.protocol.specs.Agreement.{Meaning, Sized, Agrees, Keeps-discipline}
-use Rattle.committee.specs.Tree.{Tree, node, low, size, Split, Halved}
-use Rattle.halving.specs.Execution.{Honest-at, trace, Turns, turn-time, time, Exec}
-use Rattle.halving.specs.Theorems.{Only-grows, Few-in, Lawful-grading, Honest-executions-end-sure}
+use Rattle.committee.specs.Tree.{low, size, Split, Halved}
+use Rattle.halving.specs.Execution.{turn-time, time}
+use Rattle.halving.specs.Theorems.{Few-in, Honest-executions-end-sure}
 use Rattle.halving.proofs.Timeline.{Within, earlier, part}
 use Rattle.halving.proofs.Halves.{halves, stays-sure, unites}
 

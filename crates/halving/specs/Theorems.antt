@@ -1,17 +1,17 @@
 -- What holds of every execution, for every lawful base agreement and every lawful graded agreement.
 use mathlib.Core.Path.{_≡_}
 use mathlib.Core.Bool.{Bool, true, false}
-use Prim.Native.Nat.{ℕ, suc, _+_, _-_, _*_, _≤_, _<_}
+use Prim.Native.Nat.{ℕ, suc, _+_, _*_, _≤_, _<_}
 use Rattle.message.specs.Count.{count}
 use Rattle.message.specs.Tally.{Day}
 use Rattle.protocol.specs.Protocol.{Well-formed}
 use Rattle.protocol.specs.Play.{Trace, Play}
 use Rattle.protocol.specs.Cost.{signatures}
 use Rattle.protocol.specs.Discipline.{Disciplined}
-use Rattle.protocol.specs.Grading.{Grading, Graded, Leaves-with-days, day-of, grade-of}
+use Rattle.protocol.specs.Grading.{Grading, Graded, Leaves-with-days, grade-of}
 use Rattle.protocol.specs.Agreement.{Meaning, Within-bound, Sized, Agrees, Stays-within-bound, Keeps-discipline}
-use Rattle.committee.specs.Tree.{Tree, leaf, node, low, size, Halved, bound}
-use Rattle.halving.specs.Execution.{Honest-at, trace, Turn, Turns, time, turn-time, Exec, spent}
+use Rattle.committee.specs.Tree.{Tree, node, low, size, Halved, bound}
+use Rattle.halving.specs.Execution.{Honest-at, trace, Turns, time, turn-time, Exec, spent}
 
 -- whoever is corrupt stays so
 abbrev pub Only-grows : (ℕ → ℕ → Bool) → Type 0

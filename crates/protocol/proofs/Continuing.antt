@@ -1,8 +1,8 @@
 -- Every beginning of a play goes on: from then on the corrupt seats are silent.
 use mathlib.Core.Path.{_≡_, refl, sym, _∙_, ap}
-use mathlib.Core.Bool.{Bool, true, false, cond}
-use mathlib.Core.List.{List, [], map}
-use mathlib.Core.Logic.{_⊎_, inl, inr, ⊎-elim}
+use mathlib.Core.Bool.{true, false, cond}
+use mathlib.Core.List.{[], map}
+use mathlib.Core.Logic.{inl, inr, ⊎-elim}
 use Prim.Native.Nat.{ℕ, zero, suc, _+_, _*_, _/_, _%_, _≤_, _<_}
 use native.Mathlib.Omega.{arith}
 use lib.Dec.{ltb}
@@ -14,9 +14,8 @@ use Rattle.std.proofs.shelf.Bits.{mul-add-lt, div-mul-add, mod-mul-add}
 use Rattle.std.proofs.shelf.Counted.{getD-map-counting, length-map-counting}
 use Rattle.std.proofs.shelf.Tests.{cond-true, cond-false, cases-lt, lt-ltb, le-ltb}
 use Rattle.message.specs.declared.Message.{Message}
-use Rattle.message.specs.Tally.{Day}
 use Rattle.protocol.specs.Protocol.{Inbox, Protocol, arrived}
-use Rattle.protocol.specs.Play.{Trace, state, says, hears, Sends, Said, Possible, Played, Play}
+use Rattle.protocol.specs.Play.{Trace, state, says, hears, Sends, Said, Possible, Played}
 use Rattle.protocol.specs.Existence.{with-inboxes, Only-grows, Continued, Beginnings-go-on, Plays-exist}
 
 module _ {R : Type 0} (p : Protocol R) (k n : ℕ) (tr : Trace) where

@@ -1,12 +1,10 @@
 -- Why a lawful base agreement of several seats takes a round, listens, and admits messages: else each seat would answer its own input.
 use mathlib.Core.Path.{_≡_, refl, sym, _∙_, ap}
-use mathlib.Core.Bool.{Bool, true, false, cond}
-use mathlib.Core.List.{List}
+use mathlib.Core.Bool.{true, false}
 use mathlib.Core.Logic.{_⊎_, inl, inr}
-use Prim.Native.Nat.{ℕ, zero, suc, _+_, _*_, _/_, _%_, _≤_, _<_}
+use Prim.Native.Nat.{ℕ, zero, suc, _*_, _/_, _%_, _≤_, _<_}
 use native.Mathlib.Omega.{arith}
-use lib.Dec.{eqb}
-use lib.ListN.{length, getD}
+use lib.ListN.{getD}
 use Rattle.std.specs.declared.option.Option.{Option}
 use Rattle.std.specs.declared.option.Option.the-variants.{Some, None}
 use Rattle.std.proofs.shelf.Bits.{div-add-mod', div-below, mod-below}
@@ -17,7 +15,7 @@ use Rattle.message.specs.Count.{count}
 use Rattle.message.specs.Tally.{Day}
 use Rattle.message.proofs.Counting.{count-none}
 use Rattle.protocol.specs.Protocol.{Inbox, Protocol, arrived}
-use Rattle.protocol.specs.Play.{Trace, state, says, hears, Sends, Played, Play, final, Ends-honest}
+use Rattle.protocol.specs.Play.{Trace, state, says, hears, Play}
 use Rattle.protocol.specs.Agreement.{Meaning, protocol-of, base-topics, answer, Agrees, Keeps-discipline}
 use Rattle.protocol.specs.Lawful.{Does-not-listen, Admits-nothing, Agreeing-takes-a-round, Agreeing-takes-listening, Agreeing-takes-messages}
 use Rattle.protocol.proofs.Continuing.{exist}

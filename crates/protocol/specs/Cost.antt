@@ -1,6 +1,6 @@
 -- What messages cost, in signatures.
 use mathlib.Core.Bool.{cond}
-use Prim.Native.Nat.{ℕ, suc, _*_}
+use Prim.Native.Nat.{ℕ, _*_}
 use Rattle.std.specs.declared.option.Option.{Option}
 use Rattle.std.specs.declared.option.Option.the-variants.{Some, None}
 use Rattle.message.specs.declared.Message.{Message}

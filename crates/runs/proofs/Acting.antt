@@ -1,34 +1,31 @@
 -- What the machine leaves is what the rules ask for.
 use mathlib.Core.Path.{_≡_, refl, sym, _∙_, ap, subst}
-use mathlib.Core.Bool.{Bool, true, false, not, cond, _&&_, _||_}
-use mathlib.Core.List.{List, map}
+use mathlib.Core.Bool.{cond, _&&_}
+use mathlib.Core.List.{List}
 use mathlib.Core.Logic.{_⊎_, inl, inr, ⊎-elim, _≢_}
-use Prim.Native.Nat.{ℕ, zero, suc, _+_, _-_, _*_, _/_, _%_, _^_, _≤_, _<_}
+use Prim.Native.Nat.{ℕ, _+_, _*_, _/_, _%_, _≤_, _<_}
 use native.Mathlib.Nat.{mul-comm}
 use native.Mathlib.Omega.{arith}
-use lib.Dec.{eqb, leb, ltb}
-use lib.ListN.{length, getD, set}
-use Rattle.std.specs.Iters.{counting}
+use lib.Dec.{eqb, ltb}
+use lib.ListN.{length, getD}
 use Rattle.std.specs.declared.option.Option.{Option}
 use Rattle.std.specs.declared.option.Option.the-variants.{Some, None}
 use Rattle.std.proofs.shelf.Bits.{mul-add-lt, div-mul-add, mod-mul-add}
 use Rattle.std.proofs.shelf.Counted.{length-map-counting, getD-map-counting}
 use Rattle.std.proofs.shelf.Lists.{getD-past, length-set, getD-set-same, getD-set-other}
-use Rattle.std.proofs.shelf.Tests.{cases-bool, cases-lt, cases-eq, true≢false, lt-ltb, le-ltb, eq-eqb, ne-eqb, and-from, and-left, and-right, and-parts, leb-true, ltb-true, cond-true, cond-false}
+use Rattle.std.proofs.shelf.Tests.{cases-lt, lt-ltb, le-ltb, eq-eqb, ne-eqb, and-from, and-left, and-right, cond-true, cond-false}
 use Rattle.message.specs.declared.Message.{Message}
-use Rattle.message.specs.Members.{member}
 use Rattle.message.proofs.Masks.{member-with}
 use Rattle.protocol.specs.Grading.{Grading}
 use Rattle.protocol.specs.Agreement.{Meaning, Sized}
 use Rattle.committee.specs.declared.stages.Stage.{Stage}
-use Rattle.committee.specs.Plan.{senders-of, sits}
-use Rattle.runs.specs.State.{Party, State, room, stage-at, here, nobody, party}
+use Rattle.runs.specs.State.{Party, State, room, here, nobody}
 use Rattle.runs.specs.Round.{work, topics-for, party-of, seat-of, ready, spoken, hears-in}
-use Rattle.runs.specs.Wire.{Slots, slot, used, Place, stands, to-parties, inbox-of, Elsewhere-same}
-use Rattle.runs.specs.Rules.{speaks, said-by, sent-in, Opens, Ends, Goes-on, Corrupted, Injected, Heard, Closed}
+use Rattle.runs.specs.Wire.{Slots, slot, used, Place, stands, to-parties, inbox-of}
+use Rattle.runs.specs.Rules.{speaks, said-by, Opens, Ends, Goes-on, Corrupted, Injected, Heard, Closed}
 use Rattle.runs.specs.Machine.{rewired, topic-of, sender-of, silenced, after-corrupting, after-injecting, moved, after-hearing, slot-filled, after-opening, after-ending, going-on, after-closing}
 use Rattle.runs.specs.History.{seated, opened}
-use Rattle.runs.proofs.Fitting.{Fits, round-fits}
+use Rattle.runs.proofs.Fitting.{round-fits}
 
 -- ---- the slots of places
 

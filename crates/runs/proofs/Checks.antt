@@ -1,18 +1,16 @@
 -- Each check says yes just when its number applies.
-use mathlib.Core.Path.{_≡_, refl, sym, _∙_, ap, subst}
-use mathlib.Core.Bool.{Bool, true, false, not, cond, _&&_, _||_}
-use mathlib.Core.List.{List, [], _∷_}
-use mathlib.Core.Logic.{_⊎_, inl, inr, ⊎-elim}
-use Prim.Native.Nat.{ℕ, zero, suc, _+_, _*_, _^_, _≤_, _<_}
+use mathlib.Core.Path.{_≡_, refl, sym, _∙_, ap}
+use mathlib.Core.Bool.{Bool, true, false, not, _&&_}
+use mathlib.Core.Logic.{inl, inr, ⊎-elim}
+use Prim.Native.Nat.{ℕ, zero, suc, _^_, _<_}
 use native.Mathlib.Omega.{arith}
 use lib.Dec.{eqb, leb, ltb}
 use lib.ListN.{length}
 use Rattle.std.specs.Options.{isSome}
 use Rattle.std.specs.declared.option.Option.{Option}
 use Rattle.std.specs.declared.option.Option.the-variants.{Some, None}
-use Rattle.std.proofs.shelf.Tests.{both-ways, cases-bool, true≢false, ltb-true, lt-ltb, leb-true, le-leb, eqb-true, eqb-false, eq-eqb, ne-eqb, not-true, not-false, not-from-true, not-from-false, and-parts, and-from, and-cases, and-left, and-right, or-cases, or-parts, or-left, or-right}
+use Rattle.std.proofs.shelf.Tests.{both-ways, cases-bool, true≢false, ltb-true, lt-ltb, leb-true, le-leb, eqb-true, eqb-false, eq-eqb, ne-eqb, not-true, not-false, not-from-false, and-parts, and-from, and-cases, and-left, and-right, or-cases, or-left, or-right}
 use Rattle.message.specs.declared.Message.{Message}
-use Rattle.message.specs.Count.{count}
 use Rattle.message.specs.Members.{member, size}
 use Rattle.message.specs.Tally.{names}
 use Rattle.message.proofs.Counting.{count-some, count-pos}

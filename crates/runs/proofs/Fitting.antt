@@ -1,26 +1,24 @@
 -- In every round of the plan the half sits in the committee, and its messages have room on the wire.
-use mathlib.Core.Path.{_≡_, refl, sym, _∙_, ap, subst}
+use mathlib.Core.Path.{_≡_, refl, sym, subst}
 use mathlib.Core.List.{List, [], _∷_, _++_, map}
-use mathlib.Core.Logic.{_⊎_, inl, inr, ⊎-elim}
-use Prim.Native.Nat.{ℕ, zero, suc, _+_, _-_, _*_, _/_, _≤_, _<_}
+use mathlib.Core.Logic.{_⊎_, inl, inr}
+use Prim.Native.Nat.{ℕ, zero, suc, _+_, _*_, _≤_, _<_}
 use native.Mathlib.Nat.{mul-assoc, mul-le-mul-left, mul-le-mul-right, le-trans}
 use native.Mathlib.Omega.{arith}
 use Rattle.std.specs.Iters.{counting}
 use Rattle.std.specs.shelf.Maps.{nth}
-use Rattle.std.specs.declared.option.Option.{Option}
-use Rattle.std.specs.declared.option.Option.the-variants.{Some, None}
+use Rattle.std.specs.declared.option.Option.the-variants.{Some}
 use Rattle.std.proofs.shelf.Tests.{cases-lt, true≢false}
 use Rattle.protocol.specs.Grading.{Grading}
 use Rattle.protocol.specs.Agreement.{Meaning, Sized, base-topics}
 use Rattle.committee.specs.declared.stages.Committee.{Committee}
 use Rattle.committee.specs.declared.stages.Part.{Part}
-use Rattle.committee.specs.declared.stages.Part.the-variants.{FirstGraded, FirstReport, SecondGraded, SecondReport, Base}
+use Rattle.committee.specs.declared.stages.Part.the-variants.{FirstGraded, SecondGraded, Base}
 use Rattle.committee.specs.declared.stages.Stage.{Stage}
 use Rattle.committee.specs.Tree.{Tree, leaf, node, low, size, Halved, committees}
-use Rattle.committee.specs.Plan.{committee-of, rounds-of, plan}
+use Rattle.committee.specs.Plan.{plan}
 use Rattle.committee.proofs.Trees.{halved, committee-size, small}
-use Rattle.runs.specs.State.{State, room, stage-at, here}
-use Rattle.runs.specs.Round.{work, work-of, topics-for}
+use Rattle.runs.specs.State.{room, stage-at}
 use Rattle.runs.specs.Wire.{used}
 
 -- a round that n parties have room for

@@ -1,9 +1,9 @@
 -- How an execution goes on, call by call, and when it is over.
-use mathlib.Core.Path.{_≡_, refl, sym, _∙_, ap, subst}
-use mathlib.Core.Bool.{Bool, true, false}
+use mathlib.Core.Path.{_≡_, refl, _∙_, ap}
+use mathlib.Core.Bool.{false}
 use mathlib.Core.List.{List, [], _∷_}
-use mathlib.Core.Logic.{_⊎_, inl, inr, ⊎-elim}
-use Prim.Native.Nat.{ℕ, zero, suc, _+_, _*_, _≤_, _<_}
+use mathlib.Core.Logic.{⊎-elim}
+use Prim.Native.Nat.{ℕ, zero, suc, _+_, _≤_, _<_}
 use native.Mathlib.Omega.{arith}
 use lib.ListN.{length}
 use Rattle.std.specs.shelf.Maps.{nth}
@@ -17,11 +17,11 @@ use Rattle.protocol.specs.Grading.{Grading}
 use Rattle.protocol.specs.Agreement.{Meaning}
 use Rattle.committee.specs.declared.stages.Stage.{Stage}
 use Rattle.committee.specs.Tree.{committees}
-use Rattle.committee.specs.Plan.{plan, duration}
+use Rattle.committee.specs.Plan.{plan}
 use Rattle.committee.proofs.Plans.{plan-length}
-use Rattle.runs.specs.State.{State, stage-at, here, party, day-at}
+use Rattle.runs.specs.State.{State, stage-at, here}
 use Rattle.runs.specs.Calls.{Call, corrupts, injects, closes, reads-decision, reads-signatures, reads-closings, Over, Applies, no-party-reads, corrupt-reads, not-over}
-use Rattle.runs.specs.Rules.{Answer, refused, reads, Ends, Opens, Goes-on, Corrupted, Injected, Heard, Closed, Does, corrupted, injected, closed, decision, signatures, closings, Outcome, refuses, accepts}
+use Rattle.runs.specs.Rules.{Answer, refused, Goes-on, Closed, Does, corrupted, injected, closed, decision, signatures, closings, refuses, accepts}
 use Rattle.runs.specs.Machine.{after-opening, after-ending, going-on}
 use Rattle.runs.specs.History.{seated, opened, History, begins, goes-on, closing-of, accepted-closings}
 use Rattle.runs.specs.Theorems.{rounds-among, Over-after}

@@ -1,14 +1,14 @@
 -- The computed outcome of a call is one that the rules allow.
-use mathlib.Core.Path.{_≡_, refl, sym, _∙_, ap, subst}
-use mathlib.Core.Bool.{Bool, true, false, _&&_}
-use mathlib.Core.Logic.{_⊎_, inl, inr, ⊎-elim}
-use Prim.Native.Nat.{ℕ, zero, suc, _+_, _-_, _*_, _≤_, _<_}
+use mathlib.Core.Path.{_≡_, refl, subst}
+use mathlib.Core.Bool.{Bool, true, false}
+use mathlib.Core.Logic.{inl, inr, ⊎-elim}
+use Prim.Native.Nat.{ℕ, _-_, _≤_, _<_}
 use native.Mathlib.Omega.{arith}
 use lib.Dec.{leb, ltb}
 use lib.ListN.{length}
 use Rattle.std.specs.declared.option.Option.{Option}
 use Rattle.std.specs.declared.option.Option.the-variants.{Some, None}
-use Rattle.std.proofs.shelf.Tests.{both-ways, cases-bool, cases-lt, and-parts, leb-true, ltb-true}
+use Rattle.std.proofs.shelf.Tests.{cases-bool, cases-lt, and-parts, leb-true, ltb-true}
 use Rattle.protocol.specs.Grading.{Grading}
 use Rattle.protocol.specs.Agreement.{Meaning, Sized}
 use Rattle.committee.specs.declared.stages.Committee.{Committee}
@@ -17,10 +17,10 @@ use Rattle.committee.specs.declared.stages.Stage.{Stage}
 use Rattle.committee.specs.Plan.{senders-in, senders-of, sits}
 use Rattle.runs.specs.State.{State, room, here}
 use Rattle.runs.specs.Round.{work, topics-for, seat-of}
-use Rattle.runs.specs.Wire.{Place, used}
-use Rattle.runs.specs.Calls.{message, Call, corrupts, injects, closes, reads-decision, reads-signatures, reads-closings, Formed, Applies, short-corrupts, short-injects, short-closes, over-corrupts, over-injects, over-closes, not-seated, no-form}
-use Rattle.runs.specs.Rules.{Answer, Does, corrupted, injected, closed, decision, signatures, closings, Outcome, refuses, accepts}
-use Rattle.runs.specs.Machine.{checks, refusal, first-of, acted, acted-if-open, unless-refused, after, says-of, answer-by, answer}
+use Rattle.runs.specs.Wire.{Place}
+use Rattle.runs.specs.Calls.{message, Call, corrupts, injects, closes, reads-decision, reads-signatures, reads-closings, Applies, short-injects, short-closes, over-corrupts, over-injects, over-closes, not-seated, no-form}
+use Rattle.runs.specs.Rules.{Does, corrupted, injected, closed, decision, signatures, closings, Outcome, refuses, accepts}
+use Rattle.runs.specs.Machine.{checks, refusal, acted, acted-if-open, unless-refused, after, says-of, answer-by, answer}
 use Rattle.runs.proofs.Fitting.{Fits, round-fits}
 use Rattle.runs.proofs.Refusing.{first-applies, first-least, none-marked}
 use Rattle.runs.proofs.Checks.{rows, marks}

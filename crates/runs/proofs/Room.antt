@@ -1,17 +1,15 @@
 -- What histories leave alone: the slots beyond the room, and all but b parties.
 use mathlib.Core.Path.{_≡_, refl, sym, _∙_, ap, subst}
-use mathlib.Core.Bool.{Bool, true, false, _&&_, _||_}
+use mathlib.Core.Bool.{true, _||_}
 use mathlib.Core.List.{List}
-use mathlib.Core.Logic.{_⊎_, inl, inr, ⊎-elim}
-use Prim.Native.Nat.{ℕ, zero, suc, _+_, _*_, _≤_, _<_}
+use mathlib.Core.Logic.{⊎-elim}
+use Prim.Native.Nat.{ℕ, _+_, _≤_, _<_}
 use native.Mathlib.Omega.{arith}
 use lib.Dec.{eqb}
 use lib.ListN.{length, getD}
 use Rattle.std.specs.declared.option.Option.{Option}
 use Rattle.std.specs.declared.option.Option.the-variants.{Some, None}
 use Rattle.std.proofs.shelf.Tests.{cases-lt, true≢false, both-ways, eqb-true, or-cases}
-use Rattle.message.specs.declared.Message.{Message}
-use Rattle.message.specs.Count.{count}
 use Rattle.message.specs.Members.{member, size, Holds}
 use Rattle.message.proofs.Counting.{count-same, count-or-and, count-one, count-none}
 use Rattle.message.proofs.Masks.{member-none}
@@ -20,11 +18,11 @@ use Rattle.protocol.specs.Agreement.{Meaning, Sized}
 use Rattle.committee.specs.declared.stages.Stage.{Stage}
 use Rattle.runs.specs.State.{State, room, stage-at, here}
 use Rattle.runs.specs.Wire.{Slots, used, Elsewhere-same}
-use Rattle.runs.specs.Calls.{Call, corrupts, injects, closes, reads-decision, Over, Applies, no-party-corrupts, limit-reached}
-use Rattle.runs.specs.Rules.{Answer, Ends, Opens, Goes-on, Corrupted, Injected, Heard, Closed, Does, corrupted, injected, closed, decision, signatures, closings, Outcome, refuses, accepts}
+use Rattle.runs.specs.Calls.{Call, corrupts, Over, Applies, no-party-corrupts, limit-reached}
+use Rattle.runs.specs.Rules.{Answer, Goes-on, Closed, Does, corrupted, injected, closed, decision, signatures, closings, refuses, accepts}
 use Rattle.runs.specs.History.{seated, opened, History, begins, goes-on}
 use Rattle.runs.specs.Theorems.{Keeps-to-its-room}
-use Rattle.runs.proofs.Fitting.{Fits, round-fits}
+use Rattle.runs.proofs.Fitting.{round-fits}
 use Rattle.runs.proofs.Acting.{opens}
 use Rattle.runs.proofs.Histories.{going-keeps, doing-keeps}
 

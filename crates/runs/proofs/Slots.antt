@@ -1,16 +1,13 @@
 -- Every slot of the open round is a place, and every place has its own slot.
-use mathlib.Core.Path.{_≡_, refl, sym, _∙_, ap}
-use mathlib.Core.Logic.{_⊎_, inl, inr, ⊎-elim}
+use mathlib.Core.Path.{_≡_, sym, _∙_, ap}
+use mathlib.Core.Logic.{⊎-elim}
 use Prim.Native.Nat.{ℕ, zero, suc, _+_, _*_, _/_, _%_, _≤_, _<_}
-use native.Mathlib.Nat.{mul-assoc}
 use native.Mathlib.Omega.{arith}
 use lib.ListN.{length, getD}
-use Rattle.std.specs.declared.option.Option.{Option}
-use Rattle.std.specs.declared.option.Option.the-variants.{Some, None}
-use Rattle.std.proofs.shelf.Bits.{div-add-mod', div-below, mod-below, mul-add-lt, div-mul-add, mod-mul-add}
-use Rattle.std.proofs.shelf.Lists.{ext-getD, getD-past}
+use Rattle.std.specs.declared.option.Option.the-variants.{None}
+use Rattle.std.proofs.shelf.Bits.{div-add-mod', div-below, mod-below}
+use Rattle.std.proofs.shelf.Lists.{ext-getD}
 use Rattle.std.proofs.shelf.Tests.{cases-lt}
-use Rattle.message.specs.declared.Message.{Message}
 use Rattle.committee.specs.declared.stages.Stage.{Stage}
 use Rattle.runs.specs.Round.{work, topics-for}
 use Rattle.runs.specs.Wire.{Slots, slot, used, Place, stands}

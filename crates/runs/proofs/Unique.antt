@@ -1,27 +1,24 @@
 -- The rules allow at most one outcome of a call.
 use mathlib.Core.Path.{_≡_, refl, sym, _∙_, ap, subst}
-use mathlib.Core.Bool.{Bool, true, false, cond, _||_}
 use mathlib.Core.List.{List}
 use mathlib.Core.Logic.{_⊎_, inl, inr, ⊎-elim, _≢_}
-use Prim.Native.Nat.{ℕ, zero, suc, _+_, _-_, _*_, _≤_, _<_}
+use Prim.Native.Nat.{ℕ, _+_, _<_}
 use native.Mathlib.Omega.{arith}
-use lib.Dec.{eqb}
 use lib.ListN.{length, getD}
 use Rattle.std.specs.declared.option.Option.{Option}
 use Rattle.std.specs.declared.option.Option.the-variants.{Some, None}
 use Rattle.std.proofs.shelf.Lists.{ext-getD}
 use Rattle.std.proofs.shelf.Tests.{cases-bool, cases-eq, cases-lt, cases-order}
 use Rattle.message.specs.declared.Message.{Message}
-use Rattle.message.specs.Members.{member}
 use Rattle.message.proofs.Masks.{same-set}
 use Rattle.protocol.specs.Grading.{Grading}
 use Rattle.protocol.specs.Agreement.{Meaning}
 use Rattle.committee.specs.declared.stages.Stage.{Stage}
-use Rattle.runs.specs.State.{Party, State, room, here, nobody, party}
+use Rattle.runs.specs.State.{Party, State, room, here, nobody}
 use Rattle.runs.specs.Round.{party-of, seat-of}
-use Rattle.runs.specs.Wire.{Slots, Place, stands, used, to-parties}
-use Rattle.runs.specs.Calls.{message, Call, corrupts, injects, closes, reads-decision, reads-signatures, reads-closings, Applies}
-use Rattle.runs.specs.Rules.{Answer, refused, done, reads, speaks, said-by, sent-in, Opens, Ends, Goes-on, Corrupted, Injected, Heard, Closed, Does, corrupted, injected, closed, decision, signatures, closings, Outcome, refuses, accepts}
+use Rattle.runs.specs.Wire.{Place, stands, to-parties}
+use Rattle.runs.specs.Calls.{message, Call}
+use Rattle.runs.specs.Rules.{Answer, refused, speaks, said-by, sent-in, Opens, Ends, Goes-on, Corrupted, Injected, Heard, Closed, Does, corrupted, injected, closed, decision, signatures, closings, Outcome, refuses, accepts}
 use Rattle.runs.proofs.Slots.{same-wires}
 
 module _ {B G : Type 0} (a : Meaning B) (g : Grading G) where

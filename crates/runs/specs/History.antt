@@ -1,16 +1,15 @@
 -- Histories: what calls bring about, one after another, from an opened execution.
-use mathlib.Core.Path.{_≡_}
-use mathlib.Core.Bool.{true, false}
+use mathlib.Core.Bool.{false}
 use mathlib.Core.List.{List, [], _∷_, map}
-use Prim.Native.Nat.{ℕ, suc, _+_, _*_, _^_, _≤_, _<_}
-use lib.ListN.{length, getD, set, replicate}
+use Prim.Native.Nat.{ℕ, _+_}
+use lib.ListN.{getD, set, replicate}
 use Rattle.std.specs.Iters.{counting}
 use Rattle.std.specs.declared.option.Option.{Option}
 use Rattle.std.specs.declared.option.Option.the-variants.{None}
 use Rattle.message.specs.declared.Message.{Message}
 use Rattle.protocol.specs.Grading.{Grading}
 use Rattle.protocol.specs.Agreement.{Meaning, base-topics}
-use Rattle.runs.specs.State.{Party, State, room, here, nobody}
+use Rattle.runs.specs.State.{Party, State, here}
 use Rattle.runs.specs.Round.{entered}
 use Rattle.runs.specs.Calls.{Call, corrupts, injects, closes, reads-decision, reads-signatures, reads-closings}
 use Rattle.runs.specs.Rules.{Answer, refused, done, reads, Outcome}

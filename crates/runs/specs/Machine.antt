@@ -1,7 +1,7 @@
 -- The outcome of a call, computed.
-use mathlib.Core.Bool.{Bool, true, false, not, cond, _&&_, _||_}
+use mathlib.Core.Bool.{Bool, false, not, cond, _&&_, _||_}
 use mathlib.Core.List.{List, [], _∷_, map}
-use Prim.Native.Nat.{ℕ, suc, _+_, _-_, _*_, _/_, _%_, _^_}
+use Prim.Native.Nat.{ℕ, suc, _+_, _/_, _%_, _^_}
 use lib.Bits.{bitOr}
 use lib.Dec.{eqb, leb, ltb}
 use lib.ListN.{length, getD, set}
@@ -13,12 +13,11 @@ use Rattle.message.specs.declared.Message.{Message}
 use Rattle.message.specs.Count.{count}
 use Rattle.message.specs.Members.{member, size}
 use Rattle.message.specs.Tally.{names}
-use Rattle.protocol.specs.declared.Form.{Form}
 use Rattle.protocol.specs.Grading.{Grading}
 use Rattle.protocol.specs.Agreement.{Meaning}
 use Rattle.committee.specs.declared.stages.Stage.{Stage}
 use Rattle.committee.specs.Plan.{senders-of, sits}
-use Rattle.runs.specs.State.{Party, State, room, here, stage-at, nobody, party, day-at, signed-on}
+use Rattle.runs.specs.State.{Party, State, room, here, nobody, party, day-at, signed-on}
 use Rattle.runs.specs.Round.{work, topics-for, party-of, seat-of, form-in, kind-in, ready, spoken, hears-in}
 use Rattle.runs.specs.Wire.{Slots, slot, used, stands, to-parties, to-seats, inbox-of}
 use Rattle.runs.specs.Calls.{message, Call, corrupts, injects, closes, reads-decision, reads-signatures, reads-closings}

@@ -1,9 +1,9 @@
 -- One party's part in a round: what it says, and what it holds when the round closes.
-use mathlib.Core.Bool.{Bool, true, false, cond, _&&_}
-use mathlib.Core.List.{List, [], map}
-use Prim.Native.Nat.{ℕ, zero, suc, _+_, _-_, _*_, _/_, _%_, _^_}
+use mathlib.Core.Bool.{Bool, false, cond, _&&_}
+use mathlib.Core.List.{List, map}
+use Prim.Native.Nat.{ℕ, zero, suc, _+_, _-_, _^_}
 use lib.Dec.{eqb, leb}
-use lib.ListN.{getD, set, replicate}
+use lib.ListN.{set, replicate}
 use Rattle.std.specs.Iters.{counting}
 use Rattle.std.specs.Options.{valueOr}
 use Rattle.std.specs.declared.option.Option.{Option}
@@ -16,7 +16,6 @@ use Rattle.protocol.specs.declared.Form.the-variants.{Listed, Certificate}
 use Rattle.protocol.specs.Protocol.{Inbox, arrived}
 use Rattle.protocol.specs.Grading.{Grading}
 use Rattle.protocol.specs.Agreement.{Meaning, base-topics}
-use Rattle.committee.specs.declared.stages.Committee.{Committee}
 use Rattle.committee.specs.declared.stages.Part.{Part}
 use Rattle.committee.specs.declared.stages.Part.the-variants.{FirstGraded, FirstReport, SecondGraded, SecondReport, Base}
 use Rattle.committee.specs.declared.stages.Stage.{Stage}

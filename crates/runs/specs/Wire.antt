@@ -1,8 +1,8 @@
 -- The wire: which message stands from whom to whom under which topic.
 use mathlib.Core.Path.{_≡_}
-use mathlib.Core.Bool.{Bool, true, false, cond, _&&_}
+use mathlib.Core.Bool.{cond}
 use mathlib.Core.List.{List, map}
-use Prim.Native.Nat.{ℕ, _+_, _-_, _*_, _/_, _%_, _^_, _≤_, _<_}
+use Prim.Native.Nat.{ℕ, _+_, _*_, _/_, _%_, _^_, _≤_, _<_}
 use lib.Dec.{eqb}
 use lib.ListN.{length, getD}
 use Rattle.std.specs.Iters.{counting}
@@ -13,8 +13,7 @@ use Rattle.protocol.specs.Protocol.{Inbox}
 use Rattle.protocol.specs.Grading.{Grading}
 use Rattle.protocol.specs.Agreement.{Meaning}
 use Rattle.committee.specs.declared.stages.Stage.{Stage}
-use Rattle.runs.specs.State.{room}
-use Rattle.runs.specs.Round.{Work, work, topics-for, formed}
+use Rattle.runs.specs.Round.{work, topics-for, formed}
 
 -- a wire: the lent slots
 abbrev pub Slots : Type 0

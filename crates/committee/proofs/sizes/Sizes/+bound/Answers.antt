@@ -1,6 +1,5 @@
 -- A small committee may send what its base agreement may, a larger one what its halves may and 11s² more.
 use mathlib.Core.Path.{sym}
-use Prim.Native.Nat.{_*_, _≤_}
 use native.Mathlib.Nat.{mul-le-mul-left}
 use native.Mathlib.Omega.{arith}
 use Rattle.committee.proofs.Trees.{bound-small}
