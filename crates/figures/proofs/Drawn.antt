@@ -8,10 +8,12 @@ use Rattle.graded.specs.Steps.{certificate}
 use Rattle.committee.specs.Tree.{build}
 use Rattle.committee.specs.Plan.{plan, duration}
 use Rattle.runs.specs.State.{stage-at}
-use Rattle.runs.specs.Round.{form-in, kind-in, says-in, ready, noted, spoken, hears-in}
+use Rattle.runs.specs.Round.{form-in, kind-in, says-in, ready, noted, spoken}
+use Rattle.runs.specs.Hearing.{hears-in}
 use Rattle.runs.specs.Wire.{inbox-of}
 use Rattle.runs.specs.Rules.{sent-in}
-use Rattle.runs.specs.Machine.{first-of, checks, silenced, after-corrupting, after-injecting, after-hearing, after-opening, after-ending, going-on, after-closing, acted, after, answer}
+use Rattle.runs.specs.Machine.{silenced, after-corrupting, after-injecting, after-hearing, after-opening, after-ending, going-on, after-closing, acted, after, answer}
+use Rattle.runs.specs.Checking.{first-of, checks}
 use Rattle.runs.specs.History.{seated, opened}
 use Rattle.figures.specs.Figures.{made, Reference-figures}
 

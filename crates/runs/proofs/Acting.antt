@@ -20,7 +20,8 @@ use Rattle.protocol.specs.Grading.{Grading}
 use Rattle.protocol.specs.Agreement.{Meaning, Sized}
 use Rattle.committee.specs.declared.stages.Stage.{Stage}
 use Rattle.runs.specs.State.{Party, State, room, here, nobody}
-use Rattle.runs.specs.Round.{work, topics-for, party-of, seat-of, ready, spoken, hears-in}
+use Rattle.runs.specs.Round.{work, topics-for, party-of, seat-of, ready, spoken}
+use Rattle.runs.specs.Hearing.{hears-in}
 use Rattle.runs.specs.Wire.{Slots, slot, used, Place, stands, to-parties, inbox-of}
 use Rattle.runs.specs.Rules.{speaks, said-by, Opens, Ends, Goes-on, Corrupted, Injected, Heard, Closed}
 use Rattle.runs.specs.Machine.{rewired, topic-of, sender-of, silenced, after-corrupting, after-injecting, moved, after-hearing, slot-filled, after-opening, after-ending, going-on, after-closing}

@@ -1,7 +1,7 @@
 -- Each check says yes just when its number applies.
 use mathlib.Core.Path.{_≡_, refl, sym, _∙_, ap}
 use mathlib.Core.Bool.{Bool, true, false, not, _&&_}
-use mathlib.Core.Logic.{inl, inr, ⊎-elim}
+use mathlib.Core.Logic.{_⊎_, inl, inr, ⊎-elim}
 use Prim.Native.Nat.{ℕ, zero, suc, _^_, _<_}
 use native.Mathlib.Omega.{arith}
 use lib.Dec.{eqb, leb, ltb}
@@ -24,7 +24,7 @@ use Rattle.runs.specs.State.{State, room, here, party, signed-on}
 use Rattle.runs.specs.Round.{work, topics-for, seat-of, form-in, kind-in}
 use Rattle.runs.specs.Wire.{stands, to-seats}
 use Rattle.runs.specs.Calls.{message, Call, corrupts, injects, closes, reads-decision, reads-signatures, reads-closings, Applies, short-corrupts, short-injects, short-closes, no-party-corrupts, no-party-injects, no-party-reads, bad-signers, over-corrupts, over-injects, over-closes, corrupt-corrupts, corrupt-reads, limit-reached, sender-honest, not-seated, no-form, no-signature, filled, not-over, Formed, Exists}
-use Rattle.runs.specs.Machine.{on-stage, is-formed, exists-for, forged, checks}
+use Rattle.runs.specs.Checking.{on-stage, is-formed, exists-for, forged, checks}
 use Rattle.runs.proofs.Refusing.{Rows, end, row, Marked, this, later}
 
 -- ---- an option is there or not
@@ -104,6 +104,19 @@ module _ {B G : Type 0} (a : Meaning B) (g : Grading G) where
     unformed st i t day signers off =
         ⊎-elim (λ on. absurd (off (formed-is st t (seat-of st i) (to-seats (st .committee .first) (Some (message day signers))) on))) (λ no. no)
         (cases-bool (is-formed a g st t (seat-of st i) (to-seats (st .committee .first) (Some (message day signers)))))
+
+    -- a signature exists or it does not, and a message has a form or none
+    pub exists-or-not : (about day p : ℕ) → Exists a g s about day p ⊎ (Exists a g s about day p → ⊥)
+    exists-or-not about day p =
+        ⊎-elim (λ on. inl (exists-is about day p on)) (λ off. inr (λ e. both-ways (exists-for a g s about day p) off (is-existing about day p e)))
+        (cases-bool (exists-for a g s about day p))
+
+    pub formed-or-not : (st : Stage) (i t day signers : ℕ) → Formed a g s st i t day signers ⊎ (Formed a g s st i t day signers → ⊥)
+    formed-or-not st i t day signers =
+        let o = to-seats (st .committee .first) (Some (message day signers)) in
+        ⊎-elim (λ on. inl (formed-is st t (seat-of st i) o on))
+        (λ off. inr (λ f. both-ways _ off (is-formed-if st t (seat-of st i) o (f .1 .0) (f .1 .1) (f .0) (f .1 .2) (f .1 .3))))
+        (cases-bool (is-formed a g st t (seat-of st i) o))
 
     -- ---- the checks call by call
 

@@ -99,7 +99,7 @@ module _ {B G : Type 0} (a : Meaning B) (g : Grading G) where
   still-within signatures h = omega (arith, h)
   still-within closings h = omega (arith, h)
 
-  no-closing : (c : Call) (k : ℕ) → closing-of c (refused k) ≡ 0
+  pub no-closing : (c : Call) (k : ℕ) → closing-of c (refused k) ≡ 0
   no-closing (corrupts p) k = refl
   no-closing (injects i j t day signers) k = refl
   no-closing closes k = refl

@@ -7,3 +7,5 @@ pub mod Acting
 pub mod Outcomes
 pub mod Histories
 pub mod Room
+pub mod Sending
+pub mod Fairness

@@ -1,7 +1,7 @@
 -- The computed outcome of a call is one that the rules allow.
 use mathlib.Core.Path.{_≡_, refl, subst}
 use mathlib.Core.Bool.{Bool, true, false}
-use mathlib.Core.Logic.{inl, inr, ⊎-elim}
+use mathlib.Core.Logic.{_⊎_, inl, inr, ⊎-elim}
 use Prim.Native.Nat.{ℕ, _-_, _≤_, _<_}
 use native.Mathlib.Omega.{arith}
 use lib.Dec.{leb, ltb}
@@ -12,6 +12,7 @@ use Rattle.std.proofs.shelf.Tests.{cases-bool, cases-lt, and-parts, leb-true, l
 use Rattle.protocol.specs.Grading.{Grading}
 use Rattle.protocol.specs.Agreement.{Meaning, Sized}
 use Rattle.committee.specs.declared.stages.Committee.{Committee}
+use Rattle.committee.specs.declared.stages.Part.{Part}
 use Rattle.committee.specs.declared.stages.Part.the-variants.{FirstGraded, FirstReport, SecondGraded, SecondReport, Base}
 use Rattle.committee.specs.declared.stages.Stage.{Stage}
 use Rattle.committee.specs.Plan.{senders-in, senders-of, sits}
@@ -20,7 +21,8 @@ use Rattle.runs.specs.Round.{work, topics-for, seat-of}
 use Rattle.runs.specs.Wire.{Place}
 use Rattle.runs.specs.Calls.{message, Call, corrupts, injects, closes, reads-decision, reads-signatures, reads-closings, Applies, short-injects, short-closes, over-corrupts, over-injects, over-closes, not-seated, no-form}
 use Rattle.runs.specs.Rules.{Does, corrupted, injected, closed, decision, signatures, closings, Outcome, refuses, accepts}
-use Rattle.runs.specs.Machine.{checks, refusal, acted, acted-if-open, unless-refused, after, says-of, answer-by, answer}
+use Rattle.runs.specs.Machine.{acted, acted-if-open, unless-refused, after, says-of, answer-by, answer}
+use Rattle.runs.specs.Checking.{checks, refusal}
 use Rattle.runs.proofs.Fitting.{Fits, round-fits}
 use Rattle.runs.proofs.Refusing.{first-applies, first-least, none-marked}
 use Rattle.runs.proofs.Checks.{rows, marks}
@@ -38,16 +40,25 @@ module _ {n : ℕ} {st : Stage} (fits : Fits n st) where
   half-seat : (p : ℕ) → sits (st .half) p ≡ true → seat-of st p < st .committee .size
   half-seat p e = let within = seated-within (st .half) p e in omega (arith, within .0, within .1, fits .half-from, fits .half-to)
 
-  -- who sends has a seat in the committee
-  sender-seat : (p : ℕ) → sits (senders-of st) p ≡ true → seat-of st p < st .committee .size
-  sender-seat p e = go (st .part) refl
+  -- who sends sits in the half that reports, or in the committee
+  sender-sits : (p : ℕ) → sits (senders-of st) p ≡ true → (sits (st .committee) p ≡ true) ⊎ (sits (st .half) p ≡ true)
+  sender-sits p e = go (st .part) refl
     where
-      go : (part : _) → st .part ≡ part → seat-of st p < st .committee .size
-      go FirstGraded same = listener-seat p (subst (λ x. sits (senders-in x (st .committee) (st .half)) p ≡ true) same e)
-      go FirstReport same = half-seat p (subst (λ x. sits (senders-in x (st .committee) (st .half)) p ≡ true) same e)
-      go SecondGraded same = listener-seat p (subst (λ x. sits (senders-in x (st .committee) (st .half)) p ≡ true) same e)
-      go SecondReport same = half-seat p (subst (λ x. sits (senders-in x (st .committee) (st .half)) p ≡ true) same e)
-      go Base same = listener-seat p (subst (λ x. sits (senders-in x (st .committee) (st .half)) p ≡ true) same e)
+      go : (part : Part) → st .part ≡ part → (sits (st .committee) p ≡ true) ⊎ (sits (st .half) p ≡ true)
+      go FirstGraded same = inl (subst (λ x. sits (senders-in x (st .committee) (st .half)) p ≡ true) same e)
+      go FirstReport same = inr (subst (λ x. sits (senders-in x (st .committee) (st .half)) p ≡ true) same e)
+      go SecondGraded same = inl (subst (λ x. sits (senders-in x (st .committee) (st .half)) p ≡ true) same e)
+      go SecondReport same = inr (subst (λ x. sits (senders-in x (st .committee) (st .half)) p ≡ true) same e)
+      go Base same = inl (subst (λ x. sits (senders-in x (st .committee) (st .half)) p ≡ true) same e)
+
+  -- so it has a seat in the committee
+  sender-seat : (p : ℕ) → sits (senders-of st) p ≡ true → seat-of st p < st .committee .size
+  sender-seat p e = ⊎-elim (listener-seat p) (half-seat p) (sender-sits p e)
+
+  pub sender-from : (p : ℕ) → sits (senders-of st) p ≡ true → st .committee .first ≤ p
+  sender-from p e =
+      ⊎-elim (λ on. seated-within (st .committee) p on .0) (λ on. let within = seated-within (st .half) p on in omega (arith, within .0, fits .half-from))
+      (sender-sits p e)
 
 module _ {B G : Type 0} (a : Meaning B) (g : Grading G) (sized : Sized a) (s : State B G) where
   abbrev Accepted : Call → Type 0

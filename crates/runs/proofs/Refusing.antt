@@ -6,7 +6,7 @@ use Prim.Native.Nat.{ℕ, suc, _≤_}
 use native.Mathlib.Omega.{arith}
 use Rattle.std.specs.declared.option.Option.the-variants.{Some, None}
 use Rattle.std.proofs.shelf.Tests.{true≢false}
-use Rattle.runs.specs.Machine.{first-of}
+use Rattle.runs.specs.Checking.{first-of}
 
 -- the checks stand in the order of their numbers, and each says yes only if its number applies
 pub data Rows (P : ℕ → Type 0) : ℕ → List (Bool × ℕ) → Type 0 where

@@ -10,7 +10,7 @@ use Rattle.message.specs.declared.Message.{Message}
 use Rattle.protocol.specs.Grading.{Grading}
 use Rattle.protocol.specs.Agreement.{Meaning, base-topics}
 use Rattle.runs.specs.State.{Party, State, here}
-use Rattle.runs.specs.Round.{entered}
+use Rattle.runs.specs.Hearing.{entered}
 use Rattle.runs.specs.Calls.{Call, corrupts, injects, closes, reads-decision, reads-signatures, reads-closings}
 use Rattle.runs.specs.Rules.{Answer, refused, done, reads, Outcome}
 use Rattle.runs.specs.Machine.{going-on}

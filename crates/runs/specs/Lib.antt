@@ -1,8 +1,12 @@
 pub mod State
 pub mod Round
+pub mod Hearing
 pub mod Wire
 pub mod Calls
 pub mod Rules
+pub mod Checking
 pub mod Machine
 pub mod History
+pub mod Sent
+pub mod Fair
 pub mod Theorems

@@ -17,7 +17,8 @@ use Rattle.protocol.specs.Agreement.{Meaning}
 use Rattle.committee.specs.declared.stages.Stage.{Stage}
 use Rattle.committee.specs.Plan.{sits}
 use Rattle.runs.specs.State.{Party, State, room, here, nobody, party, day-at}
-use Rattle.runs.specs.Round.{work, topics-for, party-of, seat-of, form-in, says-in, ready, spoken, hears-in}
+use Rattle.runs.specs.Round.{work, topics-for, party-of, seat-of, form-in, says-in, ready, spoken}
+use Rattle.runs.specs.Hearing.{hears-in}
 use Rattle.runs.specs.Wire.{Place, stands, used, to-parties, inbox-of, Elsewhere-same}
 use Rattle.runs.specs.Calls.{message, Call, corrupts, injects, closes, reads-decision, reads-signatures, reads-closings, Applies}
 

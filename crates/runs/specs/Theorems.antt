@@ -5,11 +5,12 @@ use mathlib.Core.Bool.{true, false}
 use Prim.Native.Nat.{ℕ, _≤_, _<_}
 use lib.ListN.{length, getD}
 use Rattle.std.specs.declared.option.Option.{Option}
-use Rattle.std.specs.declared.option.Option.the-variants.{None}
+use Rattle.std.specs.declared.option.Option.the-variants.{Some, None}
 use Rattle.message.specs.declared.Message.{Message}
 use Rattle.message.specs.Members.{member, size}
 use Rattle.protocol.specs.Grading.{Grading}
 use Rattle.protocol.specs.Agreement.{Meaning, Sized}
+use Rattle.committee.specs.declared.stages.Stage.{Stage}
 use Rattle.committee.specs.Tree.{committees}
 use Rattle.committee.specs.Plan.{duration}
 use Rattle.runs.specs.State.{State, room, here, party, day-at}
@@ -17,6 +18,8 @@ use Rattle.runs.specs.Calls.{Call, reads-decision, Over}
 use Rattle.runs.specs.Rules.{Answer, reads, Goes-on, Outcome}
 use Rattle.runs.specs.Machine.{after, answer}
 use Rattle.runs.specs.History.{seated, opened, History, accepted-closings}
+use Rattle.runs.specs.Sent.{sent}
+use Rattle.runs.specs.Fair.{Fair}
 
 -- Every call has exactly one outcome in every state, and that is the computed one.
 abbrev pub Calls-have-one-outcome : Type 0 → Type 0 → Type 0
@@ -69,3 +72,17 @@ abbrev pub Histories-keep-to-their-room : Type 0 → Type 0 → Type 0
 Histories-keep-to-their-room B G =
     (a : Meaning B) (g : Grading G) → Sized a → (n b : ℕ) (inputs : List ℕ) (wire : List (Option Message)) → room n ≤ length wire
     → (events : List (Call × Answer)) (s : State B G) → History a g (opened a g n b inputs wire) events s → Keeps-to-its-room a g n b wire s
+
+-- Counts what was sent: in every history, closed to the end or not, the counter is the signatures that stood on the wire right after the
+-- opening and right after each accepted closing.
+abbrev pub Counts-what-was-sent : Type 0 → Type 0 → Type 0
+Counts-what-was-sent B G =
+    (a : Meaning B) (g : Grading G) → Sized a → (n b : ℕ) (inputs : List ℕ) (wire : List (Option Message)) → room n ≤ length wire
+    → (events : List (Call × Answer)) (s : State B G) (h : History a g (opened a g n b inputs wire) events s) → s .count ≡ sent a g h
+
+-- Sends as prescribed: whatever round is open in a history, its wire is fair.
+abbrev pub Sends-as-prescribed : Type 0 → Type 0 → Type 0
+Sends-as-prescribed B G =
+    (a : Meaning B) (g : Grading G) → Sized a → (n b : ℕ) (inputs : List ℕ) (wire : List (Option Message)) → room n ≤ length wire
+    → (events : List (Call × Answer)) (s : State B G) → History a g (opened a g n b inputs wire) events s
+    → (st : Stage) → here a g s ≡ Some st → Fair a g st s

@@ -13,7 +13,8 @@ use Rattle.protocol.specs.Protocol.{Inbox}
 use Rattle.protocol.specs.Grading.{Grading}
 use Rattle.protocol.specs.Agreement.{Meaning}
 use Rattle.committee.specs.declared.stages.Stage.{Stage}
-use Rattle.runs.specs.Round.{work, topics-for, formed}
+use Rattle.runs.specs.Round.{work, topics-for}
+use Rattle.runs.specs.Hearing.{formed}
 
 -- a wire: the lent slots
 abbrev pub Slots : Type 0
