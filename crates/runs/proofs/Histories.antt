@@ -61,6 +61,11 @@ module _ {B G : Type 0} (a : Meaning B) (g : Grading G) where
   going-keeps None s new x = record { parties = x .parties; limit = x .limit; closings = omega (arith, x .closings) }
   going-keeps (Some st) s new x = record { parties = x .parties; limit = x .limit; closings = omega (arith, x .closings) }
 
+  -- who is corrupt is so before a round opens and after
+  pub going-corrupt : (o : Option Stage) (s new : State B G) → Goes-on a g o s new → new .corrupt ≡ s .corrupt
+  going-corrupt None s new on = on .corrupt
+  going-corrupt (Some st) s new on = on .corrupt
+
   closing-keeps : (st : Stage) (s new : State B G) → Closed a g st s new → Keeps 1 s new
   closing-keeps st s new x =
       let on = going-keeps (here a g (x .between)) (x .between) new (x .goes-on) in

@@ -9,3 +9,4 @@ pub mod Histories
 pub mod Room
 pub mod Sending
 pub mod Fairness
+pub mod Living

@@ -24,7 +24,7 @@ use Rattle.runs.specs.History.{seated, opened, History, begins, goes-on}
 use Rattle.runs.specs.Theorems.{Keeps-to-its-room}
 use Rattle.runs.proofs.Fitting.{round-fits}
 use Rattle.runs.proofs.Acting.{opens}
-use Rattle.runs.proofs.Histories.{going-keeps, doing-keeps}
+use Rattle.runs.proofs.Histories.{going-keeps, going-corrupt, doing-keeps}
 
 -- one more corrupt party
 one-more : (n p old new : ℕ) → Holds new (λ q. eqb q p || member q old) → size n new ≤ 1 + size n old
@@ -106,10 +106,6 @@ module _ {B G : Type 0} (a : Meaning B) (g : Grading G) (sized : Sized a) where
       let none = count-none (λ p. member p 0) n (λ p _. member-none p) in
       record { parties = λ p on. absurd (both-ways (member p 0) (member-none p) on); limit = omega (arith, none) }
 
-  going-on-corrupt : (o : Option Stage) (s new : State B G) → Goes-on a g o s new → new .corrupt ≡ s .corrupt
-  going-on-corrupt None s new on = on .corrupt
-  going-on-corrupt (Some st) s new on = on .corrupt
-
   few-with : (s : State B G) (p corrupt : ℕ) → ((k : ℕ) → Applies a g s (corrupts p) k → ⊥) → Holds corrupt (λ q. eqb q p || member q (s .corrupt))
       → Few (s .parties) (s .limit) (s .corrupt) → Few (s .parties) (s .limit) corrupt
   few-with s p corrupt none holds few = record {
@@ -128,7 +124,7 @@ module _ {B G : Type 0} (a : Meaning B) (g : Grading G) (sized : Sized a) where
   doing-few {s = s} {new = new} none (corrupted {p = p} _ d) few = few-with s p (new .corrupt) none (d .corrupt) few
   doing-few {s = s} none (injected _ d) few = subst (Few (s .parties) (s .limit)) (sym (d .corrupt)) few
   doing-few {s = s} {new = new} none (closed _ d) few =
-      subst (Few (s .parties) (s .limit)) (sym (going-on-corrupt (here a g (d .between)) (d .between) new (d .goes-on) ∙ d .heard .corrupt)) few
+      subst (Few (s .parties) (s .limit)) (sym (going-corrupt a g (here a g (d .between)) (d .between) new (d .goes-on) ∙ d .heard .corrupt)) few
   doing-few none decision few = few
   doing-few none signatures few = few
   doing-few none closings few = few
@@ -145,7 +141,7 @@ module _ {B G : Type 0} (a : Meaning B) (g : Grading G) (sized : Sized a) where
         let on = opens a g sized n b inputs wire long in
         let kept = going-on-keeps o s new refl on in
         let same = going-keeps a g o s new on in
-        let few = subst (Few n b) (sym (going-on-corrupt o s new on)) (nobody-corrupt n b) in
+        let few = subst (Few n b) (sym (going-corrupt a g o s new on)) (nobody-corrupt n b) in
         record {
           parties = same .parties; limit = same .limit;
           corrupt-parties = few .parties; within-limit = few .limit;

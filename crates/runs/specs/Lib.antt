@@ -9,4 +9,5 @@ pub mod Machine
 pub mod History
 pub mod Sent
 pub mod Fair
+pub mod Life
 pub mod Theorems

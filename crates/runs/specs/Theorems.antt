@@ -20,6 +20,7 @@ use Rattle.runs.specs.Machine.{after, answer}
 use Rattle.runs.specs.History.{seated, opened, History, accepted-closings}
 use Rattle.runs.specs.Sent.{sent}
 use Rattle.runs.specs.Fair.{Fair}
+use Rattle.runs.specs.Life.{life, heard}
 
 -- Every call has exactly one outcome in every state, and that is the computed one.
 abbrev pub Calls-have-one-outcome : Type 0 → Type 0 → Type 0
@@ -86,3 +87,12 @@ Sends-as-prescribed B G =
     (a : Meaning B) (g : Grading G) → Sized a → (n b : ℕ) (inputs : List ℕ) (wire : List (Option Message)) → room n ≤ length wire
     → (events : List (Call × Answer)) (s : State B G) → History a g (opened a g n b inputs wire) events s
     → (st : Stage) → here a g s ≡ Some st → Fair a g st s
+
+-- Settles as prescribed: in every history and for every b, an honest party holds, day and grade at every depth and its records, what its input
+-- and what it heard give; so do its decision and what it sends.
+abbrev pub Settles-as-prescribed : Type 0 → Type 0 → Type 0
+Settles-as-prescribed B G =
+    (a : Meaning B) (g : Grading G) → Sized a → (n b : ℕ) (inputs : List ℕ) (wire : List (Option Message)) → room n ≤ length wire
+    → (events : List (Call × Answer)) (s : State B G) (h : History a g (opened a g n b inputs wire) events s)
+    → (p : ℕ) → p < n → member p (s .corrupt) ≡ false
+    → (length (heard a g h p) ≡ s .closings) × (party a g s p ≡ life a g n p (getD inputs p 0) (heard a g h p))

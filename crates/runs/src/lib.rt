@@ -1,6 +1,6 @@
 // Executions as their rules see them: what each call does, when it is refused, and what holds of every history of calls; theory alone, for
 // every lawful base agreement. Each function carries a theorem; its proof is what the check asks for.
-ghost use Rattle.runs.specs.Theorems.{Calls-have-one-outcome, Openings-follow-the-rules, Over-after-the-plan, Histories-keep-to-their-room, Counts-what-was-sent, Sends-as-prescribed};
+ghost use Rattle.runs.specs.Theorems.{Calls-have-one-outcome, Openings-follow-the-rules, Over-after-the-plan, Histories-keep-to-their-room, Counts-what-was-sent, Sends-as-prescribed, Settles-as-prescribed};
 
 // The rules allow exactly one outcome of every call in every state, and it can be computed.
 pub fn calls_have_one_outcome<B, G>() -> u8
@@ -42,6 +42,13 @@ pub fn counts_what_was_sent<B, G>() -> u8
 // or what could be injected; and nothing else.
 pub fn sends_as_prescribed<B, G>() -> u8
     ensures { λ _. ⌜ Sends-as-prescribed B G ⌝ }
+{
+    0
+}
+
+// In every history an honest party holds what its input and what it heard give, day and grade at every depth, its decision among them.
+pub fn settles_as_prescribed<B, G>() -> u8
+    ensures { λ _. ⌜ Settles-as-prescribed B G ⌝ }
 {
     0
 }
