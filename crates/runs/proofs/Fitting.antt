@@ -17,13 +17,14 @@ use Rattle.committee.specs.declared.stages.Part.the-variants.{FirstGraded, Seco
 use Rattle.committee.specs.declared.stages.Stage.{Stage}
 use Rattle.committee.specs.Tree.{Tree, leaf, node, low, size, Halved, committees}
 use Rattle.committee.specs.Plan.{plan}
-use Rattle.committee.proofs.Trees.{halved, committee-size, small}
+use Rattle.committee.proofs.Trees.{halved, committee-low, committee-size, small}
 use Rattle.runs.specs.State.{room, stage-at}
 use Rattle.runs.specs.Wire.{used}
 
 -- a round that n parties have room for
 pub record Fits (n : ℕ) (st : Stage) : Type 0 where
   pub slots : used st ≤ room n
+  pub parties : st .committee .first + st .committee .size ≤ n
   pub half-from : st .committee .first ≤ st .half .first
   pub half-to : st .half .first + st .half .size ≤ st .committee .first + st .committee .size
 
@@ -67,33 +68,33 @@ module _ (base graded : ℕ → ℕ) (most n : ℕ) (few : most ≤ 4) where
       let again : 8 * s * s ≡ 8 * (s * s) = mul-assoc 8 s s in
       omega (arith, wide, again)
 
-  leaf-fits : (w d lo s : ℕ) → s ≤ most → Each (Fits n) (plan base graded w d (leaf lo s))
+  leaf-fits : (w d lo s : ℕ) → s ≤ most → lo + s ≤ n → Each (Fits n) (plan base graded w d (leaf lo s))
   unfolding plan
-  leaf-fits w d lo s h = each-round (Fits n) (base s) 1 _ _ Base (λ _. record { slots = smaller s h; half-from = omega arith; half-to = omega arith })
+  leaf-fits w d lo s h inside = each-round (Fits n) (base s) 1 _ _ Base (λ _. record { slots = smaller s h; parties = inside; half-from = omega arith; half-to = omega arith })
 
-  plan-fits : (w d : ℕ) (tree : Tree) → Halved most tree → size tree ≤ n → Each (Fits n) (plan base graded w d tree)
+  plan-fits : (w d : ℕ) (tree : Tree) → Halved most tree → low tree + size tree ≤ n → Each (Fits n) (plan base graded w d tree)
   unfolding plan Halved
-  plan-fits w d (leaf lo s) halves h = leaf-fits w d lo s (halves .1)
+  plan-fits w d (leaf lo s) halves h = leaf-fits w d lo s (halves .1) h
   plan-fits w d (node lo s l r) halves h =
       let split = halves .1 in
-      let fits = larger s h in
+      let fits = larger s (omega (arith, h)) in
       let from-left : lo ≤ low l = omega (arith, split .left-low) in
       let to-left : low l + size l ≤ lo + s = omega (arith, split .left-low, split .left-size) in
       let from-right : lo ≤ low r = omega (arith, split .right-low) in
       let to-right : low r + size r ≤ lo + s = omega (arith, split .right-low, split .right-size) in
-      each-append (Fits n) _ _ (each-round (Fits n) (graded s) 1 _ _ FirstGraded (λ _. record { slots = fits; half-from = from-left; half-to = to-left }))
-      (each-append (Fits n) _ _ (plan-fits (2 * w) (d + 1) l (halves .2) (omega (arith, h, split .left-size)))
-      (each-more (Fits n) _ _ (record { slots = fits; half-from = from-left; half-to = to-left })
-      (each-append (Fits n) _ _ (each-round (Fits n) (graded s) 1 _ _ SecondGraded (λ _. record { slots = fits; half-from = from-right; half-to = to-right }))
-      (each-append (Fits n) _ _ (plan-fits (2 * w + 1) (d + 1) r (halves .3) (omega (arith, h, split .right-size)))
-      (each-more (Fits n) _ _ (record { slots = fits; half-from = from-right; half-to = to-right }) (each-none (Fits n)))))))
+      each-append (Fits n) _ _ (each-round (Fits n) (graded s) 1 _ _ FirstGraded (λ _. record { slots = fits; parties = h; half-from = from-left; half-to = to-left }))
+      (each-append (Fits n) _ _ (plan-fits (2 * w) (d + 1) l (halves .2) (omega (arith, h, to-left)))
+      (each-more (Fits n) _ _ (record { slots = fits; parties = h; half-from = from-left; half-to = to-left })
+      (each-append (Fits n) _ _ (each-round (Fits n) (graded s) 1 _ _ SecondGraded (λ _. record { slots = fits; parties = h; half-from = from-right; half-to = to-right }))
+      (each-append (Fits n) _ _ (plan-fits (2 * w + 1) (d + 1) r (halves .3) (omega (arith, h, to-right)))
+      (each-more (Fits n) _ _ (record { slots = fits; parties = h; half-from = from-right; half-to = to-right }) (each-none (Fits n)))))))
 
   committees-fit : 1 ≤ most → Each (Fits n) (plan base graded 1 0 (committees most 0 n))
   committees-fit some = go (cases-lt most n)
     where
       go : (most < n) ⊎ (n ≤ most) → Each (Fits n) (plan base graded 1 0 (committees most 0 n))
-      go (inl large) = plan-fits 1 0 (committees most 0 n) (halved most some 0 n (omega arith)) (omega (arith, committee-size most some 0 n))
-      go (inr fits) = subst (λ tree. Each (Fits n) (plan base graded 1 0 tree)) (sym (small most some 0 n fits)) (leaf-fits 1 0 0 n fits)
+      go (inl large) = plan-fits 1 0 (committees most 0 n) (halved most some 0 n (omega arith)) (omega (arith, committee-low most some 0 n, committee-size most some 0 n))
+      go (inr fits) = subst (λ tree. Each (Fits n) (plan base graded 1 0 tree)) (sym (small most some 0 n fits)) (leaf-fits 1 0 0 n fits (omega arith))
 
 module _ {B G : Type 0} (a : Meaning B) (g : Grading G) where
   pub round-fits : Sized a → (n t : ℕ) (st : Stage) → stage-at a g n t ≡ Some st → Fits n st

@@ -19,12 +19,16 @@ use Rattle.protocol.specs.Agreement.{Meaning, Sized}
 use Rattle.committee.specs.declared.stages.Stage.{Stage}
 use Rattle.committee.specs.Plan.{sits}
 use Rattle.runs.specs.State.{State, room, stage-at, here, nobody, party}
-use Rattle.runs.specs.Wire.{Slots}
+use Rattle.runs.specs.Round.{party-of, says-in}
+use Rattle.runs.specs.Wire.{Slots, Place, stands, to-parties}
 use Rattle.runs.specs.Calls.{Call}
 use Rattle.runs.specs.Rules.{Answer, speaks, Goes-on, Heard, Closed, Does, corrupted, injected, closed, decision, signatures, closings, refuses, accepts}
 use Rattle.runs.specs.History.{beginner, seated, opened, History, begins, goes-on, closing-of}
 use Rattle.runs.specs.Life.{at-opening, at-closing, life, box-in, one-more-box, heard}
 use Rattle.runs.proofs.Acting.{opens}
+use Rattle.runs.proofs.Fitting.{round-fits}
+use Rattle.runs.proofs.Room.{history-keeps}
+use Rattle.runs.proofs.Fairness.{history-fair}
 use Rattle.runs.proofs.Histories.{going-keeps, going-corrupt, no-closing}
 
 module _ {B G : Type 0} (a : Meaning B) (g : Grading G) where
@@ -141,3 +145,15 @@ module _ {B G : Type 0} (a : Meaning B) (g : Grading G) where
         → member p (s .corrupt) ≡ false
         → (length (heard a g h p) ≡ s .closings) × (party a g s p ≡ life a g n p (getD inputs p 0) (heard a g h p))
     settles-as-prescribed h honest = let lives = history-lives h in (lives .rounds, lives .holds honest)
+
+  -- so what stands from an honest party is, too
+  pub sends-as-lived : Sized a → (n b : ℕ) (inputs : List ℕ) (wire : Slots) → room n ≤ length wire
+      → {events : List (Call × Answer)} {s : State B G} (h : History a g (opened a g n b inputs wire) events s) (st : Stage) → here a g s ≡ Some st
+      → (t i j : ℕ) → Place st t i j → let p = party-of st i in member p (s .corrupt) ≡ false
+      → stands st (s .wire) t i j ≡ to-parties (st .committee .first) (says-in a g st i (life a g n p (getD inputs p 0) (heard a g h p)) t)
+  sends-as-lived sized n b inputs wire long {s = s} h st now t i j at honest =
+      let fits = round-fits a g sized (s .parties) (s .closings) st now in
+      let same = history-keeps a g sized n b inputs wire long _ s h .parties in
+      let below : party-of st i < n = omega (arith, at .sender, fits .parties, same) in
+      history-fair a g sized n b inputs wire long h st now .honest t i j at honest
+      ∙ ap (λ x. to-parties (st .committee .first) (says-in a g st i x t)) (settles-as-prescribed sized n b inputs wire long (party-of st i) below h honest .1)
