@@ -1,9 +1,7 @@
 // The base agreement as text: who says what to whom, what each honest seat has then seen under each topic, and what it answers.
-use crate::relaying::{INPUTS, LIAR, SEATS, lie};
+use crate::relaying::{INPUTS, LIAR, Member, SEATS, lie};
 use crate::telling::{Signed, heading};
-use base::keeping::Kept;
-use base::relays::{Relays, Seen};
-use protocol::agreement::BaseAgreement;
+use base::relays::Seen;
 use std::{fmt, io};
 
 // What a seat has seen under a topic.
@@ -29,7 +27,7 @@ pub(crate) fn opening(rt: &HostRuntime) -> io::Result<()> {
 }
 
 // What everybody says in a round.
-pub(crate) fn speech(rt: &HostRuntime, round: u32, honest: &[Kept; 3]) -> io::Result<()> {
+pub(crate) fn speech(rt: &HostRuntime, round: u32, honest: &[Member; 3]) -> io::Result<()> {
     heading(rt, round)?;
     for topic in 0..SEATS {
         words_to_all(rt, round, topic, honest)?;
@@ -38,9 +36,9 @@ pub(crate) fn speech(rt: &HostRuntime, round: u32, honest: &[Kept; 3]) -> io::Re
     Ok(())
 }
 
-fn words_to_all(rt: &HostRuntime, round: u32, topic: u32, honest: &[Kept; 3]) -> io::Result<()> {
+fn words_to_all(rt: &HostRuntime, round: u32, topic: u32, honest: &[Member; 3]) -> io::Result<()> {
     for (own, member) in honest.iter().enumerate() {
-        if let Some(message) = Relays::send(member, round, topic) {
+        if let Some(message) = member.says(round, topic) {
             let signed = Signed(message);
             println!(rt; "  seat {own} says to all under topic {topic}: {signed}")?;
         }
@@ -59,7 +57,7 @@ fn lies(rt: &HostRuntime, round: u32, topic: u32) -> io::Result<()> {
 }
 
 // What each honest seat has seen so far, topic by topic.
-pub(crate) fn seen(rt: &HostRuntime, honest: &[Kept; 3]) -> io::Result<()> {
+pub(crate) fn seen(rt: &HostRuntime, honest: &[Member; 3]) -> io::Result<()> {
     for (own, member) in honest.iter().enumerate() {
         let [a, b, c, d] = member.relay.seen;
         let (a, b, c, d) = (Shown(a), Shown(b), Shown(c), Shown(d));
@@ -68,9 +66,9 @@ pub(crate) fn seen(rt: &HostRuntime, honest: &[Kept; 3]) -> io::Result<()> {
     Ok(())
 }
 
-pub(crate) fn answers(rt: &HostRuntime, honest: &[Kept; 3]) -> io::Result<()> {
+pub(crate) fn answers(rt: &HostRuntime, honest: &[Member; 3]) -> io::Result<()> {
     for (own, member) in honest.iter().enumerate() {
-        let day = Relays::day(member);
+        let day = member.day();
         println!(rt; "seat {own} answers {day}")?;
     }
     Ok(())

@@ -1,5 +1,4 @@
 // Base agreements, by which small committees agree: one seat alone, and up to four that relay one another's days.
-pub mod keeping;
 pub mod lone;
 mod most;
 pub mod relays;

@@ -13,13 +13,11 @@ impl BaseAgreement for Lone {
     // its input
     type Record = Day;
 
-    type Plain = Day;
-
     const SEATS: u32 = 1;
 
-    ghost plain = { λ day. day };
-
     ghost meaning = { lone };
+
+    ghost kept = { λ _. Unit {0} };
 
     ghost sized = { Prim.search rules };
 

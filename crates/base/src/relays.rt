@@ -2,13 +2,12 @@
 ghost use Rattle.std.specs.Prelude.{◌≡◌, ◌<◌, ◌≤◌, ◌≢◌};
 ghost use Rattle.message.specs.Members.{most_parties};
 ghost use Rattle.protocol.specs.Inboxes.{days};
-ghost use Rattle.base.specs.Relaying.{both, due, add, gather, only_day, entry_under, entries_of, word, start as at_first, send as sends, hear as hears, day_of, relays};
+ghost use Rattle.base.specs.Relaying.{both, due, add, gather, only_day, entry_under, entries_of, word, relays};
 ghost use Rattle.base.specs.Placing;
 ghost use Rattle.base.specs.Agreeing.{agrees};
 ghost use Rattle.base.specs.Spending.{stays_within_bound};
 ghost use Rattle.base.specs.RelayingLemmas.{keeps_discipline};
 
-use crate::keeping::Kept;
 use crate::most::most_named;
 use message::entries::NamesDay;
 use message::{Day, Message, Signers};
@@ -36,15 +35,13 @@ pub struct Relay {
 pub struct Relays;
 
 impl BaseAgreement for Relays {
-    type Record = Kept;
-
-    type Plain = Relay;
+    type Record = Relay;
 
     const SEATS: u32 = 4;
 
-    ghost plain = { λ seat. seat.relay };
-
     ghost meaning = { relays };
+
+    ghost kept = { λ s. (s.seats ≤ 4) × (s.own < s.seats) };
 
     ghost sized = { Placing.sized };
 
@@ -65,19 +62,34 @@ impl BaseAgreement for Relays {
         }
     }
 
-    fn start(seats: u32, own: u32, input: Day) -> Kept {
-        Kept {
-            relay: begun(seats, own, input),
+    fn start(seats: u32, own: u32, input: Day) -> Relay {
+        Relay {
+            seats,
+            own,
+            day: input,
+            seen: [Seen::Nothing; 4],
         }
     }
 
-    fn send(seat: &Kept, round: u32, topic: u32) -> Option<Message> {
-        said(&seat.relay, round, topic)
+    fn send(seat: &Relay, round: u32, topic: u32) -> Option<Message> {
+        match (
+            signers_due(seat.seats, round, topic, seat.own),
+            word_of(seat, round, topic),
+        ) {
+            (Some(signers), Some(day)) => Some(Message { day, signers }),
+            _ => None,
+        }
     }
 
-    fn hear(seat: Kept, _round: u32, inbox: &[Option<Message>]) -> Kept {
-        Kept {
-            relay: heard(seat.relay, inbox),
+    fn hear(seat: Relay, _round: u32, inbox: &[Option<Message>]) -> Relay {
+        Relay {
+            seen: [
+                gathered(seat.seen[0], under(inbox, seat.seats, 0)),
+                gathered(seat.seen[1], under(inbox, seat.seats, 1)),
+                gathered(seat.seen[2], under(inbox, seat.seats, 2)),
+                gathered(seat.seen[3], under(inbox, seat.seats, 3)),
+            ],
+            ..seat
         }
     }
 
@@ -94,60 +106,9 @@ impl BaseAgreement for Relays {
         }
     }
 
-    fn day(seat: &Kept) -> Day {
-        answered(&seat.relay)
+    fn day(seat: &Relay) -> Day {
+        most_named(&entries(seat)).unwrap_or(seat.day)
     }
-}
-
-// A seat that has seen nothing yet.
-fn begun(seats: u32, own: u32, input: Day) -> Relay
-    ensures { result ≡ at_first seats own input }
-{
-    Relay {
-        seats,
-        own,
-        day: input,
-        seen: [Seen::Nothing; 4],
-    }
-}
-
-// What a seat says in a round under a topic.
-fn said(seat: &Relay, round: u32, topic: u32) -> Option<Message>
-    requires { (seat.now.seats ≤ 4) × (seat.now.own < seat.now.seats) }
-    ensures { result ≡ sends seat.now round topic }
-{
-    match (
-        signers_due(seat.seats, round, topic, seat.own),
-        word_of(seat, round, topic),
-    ) {
-        (Some(signers), Some(day)) => Some(Message { day, signers }),
-        _ => None,
-    }
-}
-
-// What a seat keeps of what arrives, in whatever round: under each topic the days that it has seen.
-fn heard(seat: Relay, inbox: &[Option<Message>]) -> Relay
-    requires { seat.seats ≤ 4 }
-    ensures is { result ≡ hears seat 0 inbox.now }
-    ensures sits { (result.seats ≡ seat.seats) × (result.own ≡ seat.own) }
-{
-    Relay {
-        seen: [
-            gathered(seat.seen[0], under(inbox, seat.seats, 0)),
-            gathered(seat.seen[1], under(inbox, seat.seats, 1)),
-            gathered(seat.seen[2], under(inbox, seat.seats, 2)),
-            gathered(seat.seen[3], under(inbox, seat.seats, 3)),
-        ],
-        ..seat
-    }
-}
-
-// The day of most entries, or its own if there is none.
-fn answered(seat: &Relay) -> Day
-    requires { seat.now.seats ≤ 4 }
-    ensures { result ≡ day_of seat.now }
-{
-    most_named(&entries(seat)).unwrap_or(seat.day)
 }
 
 // The signatures of two seats.

@@ -1,8 +1,7 @@
 // Seats that relay, and what reaches each of them.
 ghost use Rattle.std.specs.Prelude.{◌<◌, ◌≤◌};
 
-use base::keeping::Kept;
-use base::relays::Relays;
+use base::relays::{Relay, Relays};
 use message::{Day, Message, Signers};
 use protocol::agreement::BaseAgreement;
 
@@ -11,7 +10,9 @@ type Inbox = [Option<Message>; 16];
 
 #[derive(Clone, Copy)]
 pub(crate) struct Seat {
-    relay: Kept,
+    relay: Relay,
+    ghost few: { relay.seats ≤ 4 },
+    ghost seated: { relay.own < relay.seats },
 }
 
 impl Seat {

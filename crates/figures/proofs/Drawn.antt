@@ -15,11 +15,10 @@ use Rattle.runs.specs.Rules.{sent_in}
 use Rattle.runs.specs.Machine.{silenced, after_corrupting, after_injecting, after_hearing, after_opening, after_ending, going_on, after_closing, acted, after, answer}
 use Rattle.runs.specs.Checking.{first_of, checks}
 use Rattle.runs.specs.History.{seated, opened}
-use Rattle.runs.specs.Opening.{opening_checks}
 use Rattle.figures.specs.Figures.{made, ReferenceFigures}
 
 pub drawn : ReferenceFigures
-unfolding made opening_checks opened seated after answer acted first_of checks silenced after_corrupting after_injecting after_hearing after_opening after_ending going_on after_closing inbox_of hears_in sent_in says_in form_in kind_in ready spoken noted stage_at plan duration build count sum member gathered certificate arrived tally others lowest reaching
+unfolding made opened seated after answer acted first_of checks silenced after_corrupting after_injecting after_hearing after_opening after_ending going_on after_closing inbox_of hears_in sent_in says_in form_in kind_in ready spoken noted stage_at plan duration build count sum member gathered certificate arrived tally others lowest reaching
 drawn = record {
   quorums = refl;
   rounds_alone = refl;
@@ -34,8 +33,5 @@ drawn = record {
   certificate_stands = refl;
   echo_missing = refl;
   no_quorum = refl;
-  too_many = refl;
-  enough = refl;
-  too_short = refl;
   one_alone = refl;
 }

@@ -1,5 +1,5 @@
 -- The reference figures: small executions, call by call, and what they come to.
-use Rattle.std.specs.Prelude.{◌≡◌, ℕ, ◌-◌, List, [], ◌∷◌, ◌++◌, map, length, replicate, Some, None, Option}
+use Rattle.std.specs.Prelude.{◌≡◌, ℕ, List, [], ◌∷◌, ◌++◌, map, length, replicate, None}
 use Rattle.graded.specs.declared.seats.Seat.{Seat}
 use Rattle.graded.specs.Steps.{four_rounds}
 use Rattle.base.specs.Alone.{lone}
@@ -9,10 +9,8 @@ use Rattle.protocol.specs.Agreement.{Meaning}
 use Rattle.runs.specs.State.{State, room}
 use Rattle.runs.specs.Calls.{Call, corrupts, injects, closes, reads_decision, reads_signatures, Over}
 use Rattle.runs.specs.Rules.{refused, done, reads}
-use Rattle.runs.specs.Checking.{first_of}
 use Rattle.runs.specs.Machine.{after, answer}
 use Rattle.runs.specs.History.{opened}
-use Rattle.runs.specs.Opening.{opening_checks}
 use Rattle.runs.specs.Theorems.{rounds_among}
 
 module _ {B : Type 0} (a : Meaning B) where
@@ -34,10 +32,6 @@ module _ {B : Type 0} (a : Meaning B) where
   ComesTo s asked day spent =
       (map (λ p. answer a four_rounds s (reads_decision p)) asked ≡ map (λ _. reads day) asked)
       × (answer a four_rounds s reads_signatures ≡ reads spent)
-
--- the number by which an opening of n parties, nobody of whom may be corrupted, is refused on a wire of so many slots
-abbrev pub opens : ℕ → ℕ → Option ℕ
-opens n slots = first_of (opening_checks lone four_rounds n 0 (replicate n 7) (replicate slots None))
 
 -- three parties, alone at the leaves; party 2 is corrupted in round 1 and echoes 7 to party 0 and 9 to party 1
 abbrev pub two_echoes : List Call
@@ -65,9 +59,5 @@ pub record ReferenceFigures : Type 0 where
   pub certificate_stands : answer lone four_rounds mid_round (injects 2 0 0 7 5) ≡ done
   pub echo_missing : answer lone four_rounds mid_round (injects 2 0 0 7 6) ≡ refused 26
   pub no_quorum : answer lone four_rounds mid_round (injects 2 0 0 7 4) ≡ refused 25
-  -- 33 parties are too many and 32 are not; a wire of one slot less is too short
-  pub too_many : opens 33 (room 33) ≡ Some 1
-  pub enough : opens 32 (room 32) ≡ None
-  pub too_short : map (λ n. opens n (room n - 1)) (1 ∷ 2 ∷ 5 ∷ 32 ∷ []) ≡ Some 4 ∷ Some 4 ∷ Some 4 ∷ Some 4 ∷ []
   -- alone, one party is done at once
   pub one_alone : Over lone four_rounds (execution lone 0 (7 ∷ []))

@@ -31,18 +31,16 @@ impl From<Unformed> for Fault {
 // An agreement among few seats, which it knows by number from 0; it counts rounds from 1 and topics from 0 to 7. Each method is an
 // equation with the meaning, and the laws are of the meaning.
 pub trait BaseAgreement {
-    // what one seat keeps from round to round; that its numbers hold together is its own type's care
+    // what one seat keeps from round to round
     type Record: Copy;
-
-    // what the meaning sees of a record
-    type Plain;
 
     // the most seats that it is for, 1 to 4; no clause can name a constant, so `max_seats` answers it
     const SEATS: u32;
 
-    ghost plain: { Self.Record → Self.Plain };
+    ghost meaning: { Meaning Self.Record };
 
-    ghost meaning: { Meaning Self.Plain };
+    // the record has come of `start` and `hear`
+    ghost kept: { Self.Record → Type 0 };
 
     fn max_seats() -> u32
         ensures { result ≡ meaning.most };
@@ -56,15 +54,19 @@ pub trait BaseAgreement {
     fn start(seats: u32, own: u32, input: Day) -> Self::Record
         requires sizes { Seats meaning seats }
         requires seated { own < seats }
-        ensures { plain result ≡ meaning.start seats own input };
+        ensures is { result ≡ meaning.start seats own input }
+        ensures keeps { kept result };
 
     // What a seat says to all seats in a round under a topic, if anything.
     fn send(seat: &Self::Record, round: u32, topic: u32) -> Option<Message>
-        ensures { result ≡ meaning.send (plain seat.now) round topic };
+        requires { kept seat.now }
+        ensures { result ≡ meaning.send seat.now round topic };
 
     // A seat's record after a round in which this arrived: what seat i said under topic t is expected at t * seats + i.
     fn hear(seat: Self::Record, round: u32, inbox: &[Option<Message>]) -> Self::Record
-        ensures { plain result ≡ meaning.hear (plain seat) round inbox.now };
+        requires { kept seat }
+        ensures is { result ≡ meaning.hear seat round inbox.now }
+        ensures keeps { kept result };
 
     // The form of a message, or that it has none.
     fn form(
@@ -80,7 +82,8 @@ pub trait BaseAgreement {
 
     // The day that a seat answers after the last round.
     fn day(seat: &Self::Record) -> Day
-        ensures { result ≡ meaning.day (plain seat.now) };
+        requires { kept seat.now }
+        ensures { result ≡ meaning.day seat.now };
 
     ghost sized: { Sized meaning };
 

@@ -3,7 +3,6 @@ use Rattle.std.proofs.Common.{◌≡◌, ℕ, ◌^◌, ◌<◌, ◌≤◌, true,
 use Rattle.std.proofs.lemmas.Bool.{cases_Bool, cases_eq, cases_lt, true≢false, both_ways, eqb-true, eq-eqb, or_cases, or_parts, or_right, cond-true, cond-false}
 use Rattle.message.specs.declared.Message.{Message}
 use Rattle.message.specs.Members.{member}
-use Rattle.message.specs.Tally.{Day}
 use Rattle.message.proofs.Masks.{member_below}
 use Rattle.protocol.specs.Grading.{Grading}
 use Rattle.protocol.specs.Agreement.{Meaning, Sized}
@@ -11,9 +10,8 @@ use Rattle.committee.specs.declared.stages.Stage.{Stage}
 use Rattle.committee.specs.Plan.{senders_of, sits}
 use Rattle.runs.specs.State.{State, room, here, nobody, signed_on}
 use Rattle.runs.specs.Round.{party_of, seat_of, says_in, kind_in}
-use Rattle.runs.specs.Hearing.{formed}
 use Rattle.runs.specs.Wire.{Slots, Place, stands, to_parties}
-use Rattle.runs.specs.Calls.{message, Call, CanBeMade, injects, Formed, Exists, Applies, bad_signers, sender_honest, not_seated, no_form, no_signature}
+use Rattle.runs.specs.Calls.{message, Call, injects, Formed, Exists, Applies, bad_signers, sender_honest, not_seated, no_form, no_signature}
 use Rattle.runs.specs.Rules.{Answer, said_by, Opens, Goes_on, Corrupted, Injected, Does, corrupted, injected, closed, decision, signatures, closings, refuses, accepts}
 use Rattle.runs.specs.History.{seated, opened, History, begins, goes_on}
 use Rattle.runs.specs.Fair.{Injectable, Fair}
@@ -45,12 +43,10 @@ module _ {B G : Type 0} (a : Meaning B) (g : Grading G) where
     still_exists about day p (inl on) = inl (grows p on)
     still_exists about day p (inr e) = inr (ap (λ h. signed_on (get_or h p (nobody a g)) about) held ∙ e)
 
-    pub still_injectable : (t i : ℕ) (m : Message) → Injectable a g st old t i m → Injectable a g st new t i m
+    still_injectable : (t i : ℕ) (m : Message) → Injectable a g st old t i m → Injectable a g st new t i m
     still_injectable t i m x = record {
       sends = x.sends;
-      a_day = x.a_day;
       formed = x.formed;
-      has_signers = x.has_signers;
       signed = λ p on.
           let was = x.signed p on in
           (subst (λ n. p < n) (sym parties) was.0, still_exists (kind_in a g st t) m.day p was.1);
@@ -63,7 +59,7 @@ module _ {B G : Type 0} (a : Meaning B) (g : Grading G) where
         let was = parts (party_of st i) h in
         d.others t i j at (λ e. both_ways (eqb (party_of st i) p) was.0 (eq-eqb (party_of st i) p e))
         ∙ fair.honest t i j at was.1
-        ∙ ap (λ x. to_parties st.committee.first (formed a g st t i (says_in a g st i (get_or x (party_of st i) (nobody a g)) t))) (sym d.held);
+        ∙ ap (λ x. to_parties st.committee.first (says_in a g st i (get_or x (party_of st i) (nobody a g)) t)) (sym d.held);
     corrupt = λ t i j m at h e. still_injectable st old new d.parties d.held grows t i m (was_injectable t i j m at h e);
     nothing_else = λ x past h. d.elsewhere.same x past ∙ fair.nothing_else x past (subst (λ n. x < room n) d.parties h);
   }
@@ -87,8 +83,7 @@ module _ {B G : Type 0} (a : Meaning B) (g : Grading G) where
 
   -- a message is injected
   module _ (st : Stage) (i j t day signers : ℕ) (old new : State B G) (now : here a g old ≡ Some st) (fits : Fits old.parties st)
-      (a_day : Day day) (none : (k : ℕ) → Applies a g old (injects i j t day signers) k → ⊥)
-      (d : Injected a g st i j t (message day signers) old new) (fair : Fair a g st old) where
+      (none : (k : ℕ) → Applies a g old (injects i j t day signers) k → ⊥) (d : Injected a g st i j t (message day signers) old new) (fair : Fair a g st old) where
     sender_sends : sits (senders_of st) i ≡ true
     sender_sends = ⊎_elim (λ on. on) (λ off. absurd (none 24 (not_seated now (inl off)))) (cases_Bool (sits (senders_of st) i))
 
@@ -104,8 +99,6 @@ module _ {B G : Type 0} (a : Meaning B) (g : Grading G) where
     was_injectable : Injectable a g st old t (seat_of st i) (message day signers)
     was_injectable = record {
       sends = subst (λ p. sits (senders_of st) p ≡ true) (sym own_seat) sender_sends;
-      a_day = a_day;
-      has_signers = ⊎_elim (λ zero. absurd (none 6 (bad_signers (inl zero)))) (λ some. omega (arith, some)) (cases_eq signers 0);
       formed = subst (λ p. Formed a g old st p t day signers) (sym own_seat)
           (⊎_elim (λ on. on) (λ off. absurd (none 25 (no_form now off))) (formed_or_not a g old st i t day signers));
       signed = λ p on.
@@ -119,7 +112,7 @@ module _ {B G : Type 0} (a : Meaning B) (g : Grading G) where
           let was : member (party_of st i') old.corrupt ≡ false = ap (member (party_of st i')) (sym d.corrupt) ∙ h in
           d.others t' i' j' at (inr (inl (λ e. both_ways (member (party_of st i') old.corrupt) was (ap (λ x. member (party_of st x) old.corrupt) e ∙ ap (λ x. member x old.corrupt) own_seat ∙ sender_corrupt))))
           ∙ fair.honest t' i' j' at was
-          ∙ ap (λ x. to_parties st.committee.first (formed a g st t' i' (says_in a g st i' (get_or x (party_of st i') (nobody a g)) t'))) (sym d.held);
+          ∙ ap (λ x. to_parties st.committee.first (says_in a g st i' (get_or x (party_of st i') (nobody a g)) t')) (sym d.held);
       corrupt = λ t' i' j' m at h e.
           still_injectable st old new d.parties d.held (λ p on. ap (member p) d.corrupt ∙ on) t' i' m
           (go t' i' j' m at h e (cases_eq t' t) (cases_eq i' (seat_of st i)) (cases_eq j' (seat_of st j)));
@@ -151,17 +144,17 @@ module _ {B G : Type 0} (a : Meaning B) (g : Grading G) where
       subst (λ x. Fair a g x new) (one_stage s new st' st now e (same_stage a g (Some st') s new on)) (fair_opening st' s new on)
 
   module _ (sized : Sized a) where
-    fair_doing : {s new : State B G} {c : Call} {x : Answer} → CanBeMade c → ((k : ℕ) → Applies a g s c k → ⊥) → Does a g s c x new
+    fair_doing : {s new : State B G} {c : Call} {x : Answer} → ((k : ℕ) → Applies a g s c k → ⊥) → Does a g s c x new
         → ((st : Stage) → here a g s ≡ Some st → Fair a g st s) → (st : Stage) → here a g new ≡ Some st → Fair a g st new
-    fair_doing {s = s} {new = new} can none (corrupted {p = p} {st = st'} now d) fair st e =
+    fair_doing {s = s} {new = new} none (corrupted {p = p} {st = st'} now d) fair st e =
         subst (λ x. Fair a g x new) (one_stage s new st' st now e (rw (d.parties, d.closings))) (fair_corrupting st' p s new d (fair st' now))
-    fair_doing {s = s} {new = new} can none (injected {i = i} {j = j} {t = t} {day = day} {signers = signers} {st = st'} now d) fair st e =
+    fair_doing {s = s} {new = new} none (injected {i = i} {j = j} {t = t} {day = day} {signers = signers} {st = st'} now d) fair st e =
         subst (λ x. Fair a g x new) (one_stage s new st' st now e (rw (d.parties, d.closings)))
-        (fair_injecting st' i j t day signers s new now (round_fits a g sized s.parties s.closings st' now) can none d (fair st' now))
-    fair_doing {new = new} can none (closed _ d) fair st e = fair_going_on (here a g d.between) d.between new refl d.goes_on st e
-    fair_doing can none decision fair st e = fair st e
-    fair_doing can none signatures fair st e = fair st e
-    fair_doing can none closings fair st e = fair st e
+        (fair_injecting st' i j t day signers s new now (round_fits a g sized s.parties s.closings st' now) none d (fair st' now))
+    fair_doing {new = new} none (closed _ d) fair st e = fair_going_on (here a g d.between) d.between new refl d.goes_on st e
+    fair_doing none decision fair st e = fair st e
+    fair_doing none signatures fair st e = fair st e
+    fair_doing none closings fair st e = fair st e
 
     module _ (n b : ℕ) (inputs : List ℕ) (wire : Slots) (long : room n ≤ length wire) where
       pub history_fair : {events : List (Call × Answer)} {s : State B G} → History a g (opened a g n b inputs wire) events s
@@ -169,5 +162,5 @@ module _ {B G : Type 0} (a : Meaning B) (g : Grading G) where
       history_fair begins st e =
           let s = seated a g n b inputs wire in
           fair_going_on (here a g s) s (opened a g n b inputs wire) refl (opens a g sized n b inputs wire long) st e
-      history_fair (goes_on h _ (refuses _ _)) st e = history_fair h st e
-      history_fair (goes_on h can (accepts none d)) st e = fair_doing can none d (history_fair h) st e
+      history_fair (goes_on h (refuses _ _)) st e = history_fair h st e
+      history_fair (goes_on h (accepts none d)) st e = fair_doing none d (history_fair h) st e

@@ -22,25 +22,25 @@ pub record Fits (n : ℕ) (st : Stage) : Type 0 where
   pub half_to : st.half.first + st.half.size ≤ st.committee.first + st.committee.size
 
 -- all stages of a list are so
-unfoldable pub Each : (Stage → Type 0) → List Stage → Type 0
+Each : (Stage → Type 0) → List Stage → Type 0
 Each P xs = (t : ℕ) (st : Stage) → slice_get xs t ≡ Some st → P st
 
 module _ (P : Stage → Type 0) where
-  pub each_none : Each P []
+  each_none : Each P []
   unfolding Each
   each_none t st e = absurd (true≢false cc)
 
-  pub each_more : (x : Stage) (xs : List Stage) → P x → Each P xs → Each P (x ∷ xs)
+  each_more : (x : Stage) (xs : List Stage) → P x → Each P xs → Each P (x ∷ xs)
   unfolding Each
   each_more x xs first rest zero st e = let same : x ≡ st = cc in subst P same first
   each_more x xs first rest (suc t) st e = rest t st e
 
-  pub each_append : (xs ys : List Stage) → Each P xs → Each P ys → Each P (xs ++ ys)
+  each_append : (xs ys : List Stage) → Each P xs → Each P ys → Each P (xs ++ ys)
   unfolding Each
   each_append [] ys left right = right
   each_append (x ∷ xs) ys left right = each_more x (xs ++ ys) (left 0 x refl) (each_append xs ys (λ t. left (suc t)) right)
 
-  pub each_round : (n a : ℕ) (c half : Committee) (part : Part)
+  each_round : (n a : ℕ) (c half : Committee) (part : Part)
       → ((round : ℕ) → P (record { committee = c; half = half; part = part; round = round }))
       → Each P (map (λ round. record { committee = c; half = half; part = part; round = round }) (range_with_len a n))
   unfolding Each

@@ -18,25 +18,25 @@ use Rattle.runs.specs.Machine.{after_opening, after_ending, going_on}
 use Rattle.runs.specs.History.{seated, opened, History, begins, goes_on, closing_of, accepted_closings}
 use Rattle.runs.specs.Theorems.{rounds_among, OverAfter}
 
--- where a list has no entry, it has ended
-ended_by : {A : Type 0} (xs : List A) (t : ℕ) → slice_get xs t ≡ None → length xs ≤ t
-ended_by [] t e = omega arith
-ended_by (x ∷ xs) zero e = absurd (true≢false cc)
-ended_by (x ∷ xs) (suc t) e = let rest = ended_by xs t e in omega (arith, rest)
+-- a list has an entry at every place below its length
+nth_some : {A : Type 0} (xs : List A) (t : ℕ) → slice_get xs t ≡ None → length xs ≤ t
+nth_some [] t e = omega arith
+nth_some (x ∷ xs) zero e = absurd (true≢false cc)
+nth_some (x ∷ xs) (suc t) e = let rest = nth_some xs t e in omega (arith, rest)
 
 module _ {B G : Type 0} (a : Meaning B) (g : Grading G) where
   -- no round is open once all rounds have closed, and one is before that
-  pub stages_end : (n t : ℕ) → rounds_among a g n ≤ t → stage_at a g n t ≡ None
+  stages_end : (n t : ℕ) → rounds_among a g n ≤ t → stage_at a g n t ≡ None
   unfolding stage_at
   stages_end n t h =
       slice_get_past (plan a.rounds g.protocol.rounds 1 0 (committees a.most 0 n)) t
       (let long = plan_length a.rounds g.protocol.rounds 1 0 (committees a.most 0 n) in omega (arith, h, long))
 
-  pub stages_last : (n t : ℕ) → stage_at a g n t ≡ None → rounds_among a g n ≤ t
+  stages_last : (n t : ℕ) → stage_at a g n t ≡ None → rounds_among a g n ≤ t
   unfolding stage_at
   stages_last n t e =
       let long = plan_length a.rounds g.protocol.rounds 1 0 (committees a.most 0 n) in
-      let past = ended_by (plan a.rounds g.protocol.rounds 1 0 (committees a.most 0 n)) t e in
+      let past = nth_some (plan a.rounds g.protocol.rounds 1 0 (committees a.most 0 n)) t e in
       omega (arith, long, past)
 
   stages_open : (n t : ℕ) (st : Stage) → stage_at a g n t ≡ Some st → t < rounds_among a g n
@@ -116,10 +116,10 @@ module _ {B G : Type 0} (a : Meaning B) (g : Grading G) where
       → History a g (opened a g n b inputs wire) events s → Led n events s
   unfolding accepted_closings
   history_led n b inputs wire begins = opened_led n b inputs wire
-  history_led n b inputs wire (goes_on {c = c} h _ (refuses {k = k} _ _)) =
+  history_led n b inputs wire (goes_on {c = c} h (refuses {k = k} _ _)) =
       let led = history_led n b inputs wire h in
       record { parties = led.parties; counted = omega (arith, led.counted, no_closing c k); within = led.within }
-  history_led n b inputs wire (goes_on {s = s} {new = new} {c = c} {x = x} h _ (accepts _ d)) =
+  history_led n b inputs wire (goes_on {s = s} {new = new} {c = c} {x = x} h (accepts _ d)) =
       let led = history_led n b inputs wire h in
       let keeps = doing_keeps d in
       let same : rounds_among a g s.parties ≡ rounds_among a g n = ap (rounds_among a g) led.parties in

@@ -1,14 +1,13 @@
 pub mod Slots
-pub mod Forms
 pub mod Unique
 pub mod Fitting
 pub mod Refusing
 pub mod Checks
 pub mod Acting
 pub mod Outcomes
+pub mod Openings
 pub mod Histories
 pub mod Room
 pub mod Sending
 pub mod Fairness
 pub mod Living
-pub mod Openings

@@ -11,7 +11,6 @@ use Rattle.committee.specs.declared.stages.Stage.{Stage}
 use Rattle.committee.specs.Plan.{sits}
 use Rattle.runs.specs.State.{State, room, stage_at, here, nobody, party}
 use Rattle.runs.specs.Round.{party_of, says_in}
-use Rattle.runs.specs.Hearing.{formed}
 use Rattle.runs.specs.Wire.{Slots, Place, stands, to_parties}
 use Rattle.runs.specs.Calls.{Call}
 use Rattle.runs.specs.Rules.{Answer, speaks, Goes_on, Heard, Closed, Does, corrupted, injected, closed, decision, signatures, closings, refuses, accepts}
@@ -33,7 +32,7 @@ module _ {B G : Type 0} (a : Meaning B) (g : Grading G) where
   going_everybody None s new on = ap length on.held
   going_everybody (Some st) s new on = on.everybody
 
-  pub opening_gives : (o : Option Stage) (s new : State B G) → Goes_on a g o s new → (p : ℕ) → p < length s.held → member p s.corrupt ≡ false
+  opening_gives : (o : Option Stage) (s new : State B G) → Goes_on a g o s new → (p : ℕ) → p < length s.held → member p s.corrupt ≡ false
       → party a g new p ≡ at_opening a g p o (party a g s p)
   opening_gives None s new on p h honest = ap (λ x. get_or x p (nobody a g)) on.held
   opening_gives (Some st) s new on p h honest =
@@ -41,7 +40,7 @@ module _ {B G : Type 0} (a : Meaning B) (g : Grading G) where
       ⊎_elim (λ e. on.speakers p h (same ∙ e) ∙ sym (cond-true _ _ _ e)) (λ e. on.silent p h (same ∙ e) ∙ sym (cond-false _ _ _ e))
       (cases_Bool (sits st.committee p))
 
-  pub closing_gives : (st : Stage) (s new : State B G) → Heard a g st s new → (p : ℕ) → p < length s.held → member p s.corrupt ≡ false
+  closing_gives : (st : Stage) (s new : State B G) → Heard a g st s new → (p : ℕ) → p < length s.held → member p s.corrupt ≡ false
       → party a g new p ≡ at_closing a g p (Some st) (box_in a g (Some st) s.wire p) (party a g s p)
   closing_gives st s new on p h honest =
       let same = honest_speaks st s.corrupt p honest in
@@ -49,9 +48,9 @@ module _ {B G : Type 0} (a : Meaning B) (g : Grading G) where
       (cases_Bool (sits st.committee p))
 
   -- what an honest party holds after so many closings
-  pub record Lives (n p input : ℕ) (boxes : List Inbox) (s : State B G) : Type 0 where
+  record Lives (n p input : ℕ) (boxes : List Inbox) (s : State B G) : Type 0 where
     parties : s.parties ≡ n
-    pub everybody : length s.held ≡ n
+    everybody : length s.held ≡ n
     rounds : length boxes ≡ s.closings
     holds : member p s.corrupt ≡ false → party a g s p ≡ life a g n p input boxes
 
@@ -125,13 +124,13 @@ module _ {B G : Type 0} (a : Meaning B) (g : Grading G) where
               ∙ ap (at_opening a g p o) (get_or-map-range_with_len begin 0 n p p (nobody a g) below (omega arith));
         }
 
-    pub history_lives : {events : List (Call × Answer)} {s : State B G} (h : History a g (opened a g n b inputs wire) events s)
+    history_lives : {events : List (Call × Answer)} {s : State B G} (h : History a g (opened a g n b inputs wire) events s)
         → Lives n p (get_or inputs p 0) (heard a g h p) s
     unfolding heard
     history_lives begins = opened_lives
-    history_lives (goes_on {s = s} {c = c} h _ (refuses {k = k} _ _)) =
+    history_lives (goes_on {s = s} {c = c} h (refuses {k = k} _ _)) =
         subst (λ m. Lives n p (get_or inputs p 0) (one_more_box a g m (box_in a g (here a g s) s.wire p) (heard a g h p)) s) (sym (no_closing a g c k)) (history_lives h)
-    history_lives (goes_on h _ (accepts _ d)) = lives_doing n p (get_or inputs p 0) below (heard a g h p) d (history_lives h)
+    history_lives (goes_on h (accepts _ d)) = lives_doing n p (get_or inputs p 0) below (heard a g h p) d (history_lives h)
 
     pub settles_as_prescribed : {events : List (Call × Answer)} {s : State B G} (h : History a g (opened a g n b inputs wire) events s)
         → member p s.corrupt ≡ false
@@ -142,10 +141,10 @@ module _ {B G : Type 0} (a : Meaning B) (g : Grading G) where
   pub sends_as_lived : Sized a → (n b : ℕ) (inputs : List ℕ) (wire : Slots) → room n ≤ length wire
       → {events : List (Call × Answer)} {s : State B G} (h : History a g (opened a g n b inputs wire) events s) (st : Stage) → here a g s ≡ Some st
       → (t i j : ℕ) → Place st t i j → let p = party_of st i in member p s.corrupt ≡ false
-      → stands st s.wire t i j ≡ to_parties st.committee.first (formed a g st t i (says_in a g st i (life a g n p (get_or inputs p 0) (heard a g h p)) t))
+      → stands st s.wire t i j ≡ to_parties st.committee.first (says_in a g st i (life a g n p (get_or inputs p 0) (heard a g h p)) t)
   sends_as_lived sized n b inputs wire long {s = s} h st now t i j at honest =
       let fits = round_fits a g sized s.parties s.closings st now in
       let same = (history_keeps a g sized n b inputs wire long _ s h).parties in
       let below : party_of st i < n = omega (arith, at.sender, fits.parties, same) in
       (history_fair a g sized n b inputs wire long h st now).honest t i j at honest
-      ∙ ap (λ x. to_parties st.committee.first (formed a g st t i (says_in a g st i x t))) (settles_as_prescribed sized n b inputs wire long (party_of st i) below h honest).1
+      ∙ ap (λ x. to_parties st.committee.first (says_in a g st i x t)) (settles_as_prescribed sized n b inputs wire long (party_of st i) below h honest).1

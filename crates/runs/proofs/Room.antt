@@ -145,8 +145,8 @@ module _ {B G : Type 0} (a : Meaning B) (g : Grading G) (sized : Sized a) where
 
     pub history_keeps : (events : List (Call × Answer)) (s : State B G) → History a g (opened a g n b inputs wire) events s → KeepsToItsRoom a g n b wire s
     history_keeps events s begins = opened_keeps
-    history_keeps events s (goes_on {events = before} h _ (refuses _ _)) = history_keeps before s h
-    history_keeps events new (goes_on {events = before} {s = s} h _ (accepts none d)) =
+    history_keeps events s (goes_on {events = before} h (refuses _ _)) = history_keeps before s h
+    history_keeps events new (goes_on {events = before} {s = s} h (accepts none d)) =
         let old = history_keeps before s h in
         let kept = doing_keeps_wire d in
         let same = doing_keeps a g d in

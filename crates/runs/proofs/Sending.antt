@@ -1,5 +1,5 @@
 -- The counter is what stood on the wire when rounds opened.
-use Rattle.std.proofs.Common.{◌≡◌, ℕ, ◌+◌, ◌*◌, ◌/◌, ◌%◌, ◌^◌, ◌≤◌, List, length, Some, None, Option, sym, refl, ap, ◌∙◌, add-zero, arith}
+use Rattle.std.proofs.Common.{◌≡◌, ℕ, ◌+◌, ◌*◌, ◌/◌, ◌%◌, ◌^◌, ◌<◌, ◌≤◌, List, length, Some, None, Option, sym, refl, ap, ◌∙◌, add-zero, arith}
 use Rattle.std.proofs.lemmas.Nat.{pow_pos, mod-mul-add, div-mul-add}
 use Rattle.std.proofs.lemmas.Bool.{eq-eqb, cond-true}
 use Rattle.message.specs.declared.Message.{Message}
@@ -17,9 +17,7 @@ use Rattle.runs.specs.Sent.{on_copy, on_wire, standing_in, standing, sent}
 use Rattle.runs.proofs.Acting.{opens}
 use Rattle.runs.proofs.Histories.{no_closing}
 
--- ---- signers as parties and as seats again
-
-pub seats_again : (first : ℕ) (o : Option Message) → to_seats first (to_parties first o) ≡ o
+seats_again : (first : ℕ) (o : Option Message) → to_seats first (to_parties first o) ≡ o
 seats_again first None = refl
 seats_again first (Some m) =
     let set = m.signers.mask in
@@ -86,8 +84,8 @@ module _ {B G : Type 0} (a : Meaning B) (g : Grading G) where
     pub history_counts : {events : List (Call × Answer)} {s : State B G} (h : History a g (opened a g n b inputs wire) events s) → s.count ≡ sent a g h
     unfolding sent
     history_counts begins = opened_counts
-    history_counts (goes_on {s = s} {c = c} h _ (refuses {k = k} _ _)) =
+    history_counts (goes_on {s = s} {c = c} h (refuses {k = k} _ _)) =
         let before = history_counts h in
         let none : closing_of c (refused k) * standing a g s ≡ 0 * standing a g s = ap (λ z. z * standing a g s) (no_closing a g c k) in
         omega (arith, before, none)
-    history_counts (goes_on h _ (accepts _ d)) = let before = history_counts h in let more = doing_counts d in omega (arith, before, more)
+    history_counts (goes_on h (accepts _ d)) = let before = history_counts h in let more = doing_counts d in omega (arith, before, more)

@@ -2,7 +2,6 @@
 use Rattle.std.specs.Prelude.{◌≡◌, ℕ, ◌^◌, ◌<◌, ◌≤◌, true, false, ◌⊎◌, length, Some, None}
 use Rattle.message.specs.declared.Message.{Message}
 use Rattle.message.specs.Members.{member, size}
-use Rattle.message.specs.Tally.{Day}
 use Rattle.protocol.specs.declared.Form.{Form}
 use Rattle.protocol.specs.Grading.{Grading}
 use Rattle.protocol.specs.Agreement.{Meaning}
@@ -23,15 +22,6 @@ pub data Call : Type 0 where
   reads_decision : (party : ℕ) → Call
   reads_signatures : Call
   reads_closings : Call
-
--- a call that can be made: what it names as a day is one
-abbrev pub CanBeMade : Call → Type 0
-CanBeMade (corrupts p) = Unit {0}
-CanBeMade (injects i j t day signers) = Day day
-CanBeMade closes = Unit {0}
-CanBeMade (reads_decision p) = Unit {0}
-CanBeMade reads_signatures = Unit {0}
-CanBeMade reads_closings = Unit {0}
 
 module _ {B G : Type 0} (a : Meaning B) (g : Grading G) (s : State B G) where
   -- the execution is over: no stage is open

@@ -18,7 +18,7 @@ module _ {B G : Type 0} (a : Meaning B) (g : Grading G) where
   abbrev pub entered : ℕ → ℕ → ℕ → ℕ
   entered k i day = cond (nat_le k a.most && a.rounds k == 0) (a.day (a.start k i day)) day
 
-  -- a message that has no form is neither sent nor heard: it is as if it were not there
+  -- a message that has no form is as if it had not come
   abbrev pub if_formed : Option Form → Option Message → Option Message
   if_formed None o = None
   if_formed (Some f) o = o

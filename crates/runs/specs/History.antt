@@ -6,7 +6,7 @@ use Rattle.protocol.specs.Grading.{Grading}
 use Rattle.protocol.specs.Agreement.{Meaning, base_topics}
 use Rattle.runs.specs.State.{Party, State, here}
 use Rattle.runs.specs.Hearing.{entered}
-use Rattle.runs.specs.Calls.{Call, corrupts, injects, closes, reads_decision, reads_signatures, reads_closings, CanBeMade}
+use Rattle.runs.specs.Calls.{Call, corrupts, injects, closes, reads_decision, reads_signatures, reads_closings}
 use Rattle.runs.specs.Rules.{Answer, refused, done, reads, Outcome}
 use Rattle.runs.specs.Machine.{going_on}
 
@@ -20,8 +20,8 @@ module _ {B G : Type 0} (a : Meaning B) (g : Grading G) where
   beginner n p input = record {
     days = slice_set (replicate depths 0) 0 (entered a g n p input);
     sure = replicate depths false;
-    graded = g.protocol.start 1 0 0;
-    base = a.start 1 0 0;
+    graded = g.protocol.start 0 0 0;
+    base = a.start 0 0 0;
     signed = replicate base_topics None;
   }
 
@@ -41,12 +41,11 @@ module _ {B G : Type 0} (a : Meaning B) (g : Grading G) where
   unfoldable pub opened : ℕ → ℕ → List ℕ → List (Option Message) → State B G
   opened n b inputs wire = let s = seated n b inputs wire in going_on a g (here a g s) s
 
-  -- A history from a state: calls that can be made, with their answers, the latest first; each is an outcome in the state that those before it
-  -- left.
+  -- A history from a state: calls with their answers, the latest first; each is an outcome in the state that those before it left.
   pub data History (from : State B G) : List (Call × Answer) → State B G → Type 0 where
     begins : History from [] from
-    goes_on : {events : List (Call × Answer)} {s new : State B G} {c : Call} {x : Answer} → History from events s → CanBeMade c
-        → Outcome a g s c x new → History from ((c, x) ∷ events) new
+    goes_on : {events : List (Call × Answer)} {s new : State B G} {c : Call} {x : Answer} → History from events s → Outcome a g s c x new
+        → History from ((c, x) ∷ events) new
 
 -- an answer that is no refusal
 abbrev pub accepted : Answer → ℕ

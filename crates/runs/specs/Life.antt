@@ -41,4 +41,4 @@ module _ {B G : Type 0} (a : Meaning B) (g : Grading G) where
   -- what party p has heard in a history
   unfoldable pub heard : {from s : State B G} {events : List (Call × Answer)} → History a g from events s → ℕ → List Inbox
   heard begins p = []
-  heard (goes_on {s = s} {c = c} {x = x} h _ _) p = one_more_box (closing_of c x) (box_in (here a g s) s.wire p) (heard h p)
+  heard (goes_on {s = s} {c = c} {x = x} h _) p = one_more_box (closing_of c x) (box_in (here a g s) s.wire p) (heard h p)

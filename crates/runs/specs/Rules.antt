@@ -10,7 +10,7 @@ use Rattle.committee.specs.declared.stages.Stage.{Stage}
 use Rattle.committee.specs.Plan.{sits}
 use Rattle.runs.specs.State.{Party, State, room, here, nobody, party, day_at}
 use Rattle.runs.specs.Round.{work, topics_for, party_of, seat_of, form_in, says_in, ready, spoken}
-use Rattle.runs.specs.Hearing.{formed, hears_in}
+use Rattle.runs.specs.Hearing.{hears_in}
 use Rattle.runs.specs.Wire.{Place, stands, used, to_parties, inbox_of, ElsewhereSame}
 use Rattle.runs.specs.Calls.{message, Call, corrupts, injects, closes, reads_decision, reads_signatures, reads_closings, Applies}
 
@@ -25,9 +25,9 @@ module _ {B G : Type 0} (a : Meaning B) (g : Grading G) where
   abbrev pub speaks : Stage → ℕ → ℕ → Bool
   speaks st corrupt p = cond (member p corrupt) false (sits st.committee p)
 
-  -- what seat i says under topic t, if its party is honest and that has a form, for a message without a form is not sent; and what it costs
+  -- what seat i says under topic t, if its party is honest, and what it costs
   abbrev pub said_by : Stage → ℕ → List (Party B G) → ℕ → ℕ → Option Message
-  said_by st corrupt held t i = cond (member (party_of st i) corrupt) None (formed a g st t i (says_in a g st i (slice_index_or held (party_of st i) (nobody a g)) t))
+  said_by st corrupt held t i = cond (member (party_of st i) corrupt) None (says_in a g st i (slice_index_or held (party_of st i) (nobody a g)) t)
 
   abbrev pub price : Stage → ℕ → ℕ → Option Message → ℕ
   price st t i None = 0

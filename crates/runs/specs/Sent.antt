@@ -36,4 +36,4 @@ module _ {B G : Type 0} (a : Meaning B) (g : Grading G) where
   -- what stood on the wire right after the opening, and right after each accepted closing
   unfoldable pub sent : {from s : State B G} {events : List (Call × Answer)} → History a g from events s → ℕ
   sent {from = from} begins = standing from
-  sent (goes_on {new = new} {c = c} {x = x} h _ _) = sent h + closing_of c x * standing new
+  sent (goes_on {new = new} {c = c} {x = x} h _) = sent h + closing_of c x * standing new

@@ -59,7 +59,7 @@ module _ {B G : Type 0} (a : Meaning B) (g : Grading G) where
 
   -- what party p holds; there is nobody from `parties` on
   abbrev pub nobody : Party B G
-  nobody = record { days = []; sure = []; graded = g.protocol.start 1 0 0; base = a.start 1 0 0; signed = [] }
+  nobody = record { days = []; sure = []; graded = g.protocol.start 0 0 0; base = a.start 0 0 0; signed = [] }
 
   abbrev pub party : State B G → ℕ → Party B G
   party s p = slice_index_or s.held p nobody

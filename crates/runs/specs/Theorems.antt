@@ -9,7 +9,6 @@ use Rattle.committee.specs.Tree.{committees}
 use Rattle.committee.specs.Plan.{duration}
 use Rattle.runs.specs.State.{State, room, here, party, day_at}
 use Rattle.runs.specs.Round.{party_of, says_in}
-use Rattle.runs.specs.Hearing.{formed}
 use Rattle.runs.specs.Wire.{Place, stands, to_parties}
 use Rattle.runs.specs.Calls.{Call, reads_decision, Over}
 use Rattle.runs.specs.Rules.{Answer, reads, Goes_on, Outcome}
@@ -87,16 +86,16 @@ CountsWhatWasSent B G =
     (a : Meaning B) (g : Grading G) → Sized a → (n b : ℕ) (inputs : List ℕ) (wire : List (Option Message)) → room n ≤ length wire
     → (events : List (Call × Answer)) (s : State B G) (h : History a g (opened a g n b inputs wire) events s) → s.count ≡ sent a g h
 
--- Sends what has a form: whatever round is open in a history, its wire is fair; and what stands from an honest party is fixed by its input and by
--- what it heard: what it has to say then, if that has a form.
-abbrev pub SendsWhatHasAForm : Type 0 → Type 0 → Type 0
-SendsWhatHasAForm B G =
+-- Sends as prescribed: whatever round is open in a history, its wire is fair; and what stands from an honest party is fixed by its input and by
+-- what it heard.
+abbrev pub SendsAsPrescribed : Type 0 → Type 0 → Type 0
+SendsAsPrescribed B G =
     (a : Meaning B) (g : Grading G) → Sized a → (n b : ℕ) (inputs : List ℕ) (wire : List (Option Message)) → room n ≤ length wire
     → (events : List (Call × Answer)) (s : State B G) (h : History a g (opened a g n b inputs wire) events s)
     → (st : Stage) → here a g s ≡ Some st
     → Fair a g st s
     × ((t i j : ℕ) → Place st t i j → let p = party_of st i in member p s.corrupt ≡ false
-    → stands st s.wire t i j ≡ to_parties st.committee.first (formed a g st t i (says_in a g st i (life a g n p (slice_index inputs p) (heard a g h p)) t)))
+    → stands st s.wire t i j ≡ to_parties st.committee.first (says_in a g st i (life a g n p (slice_index inputs p) (heard a g h p)) t))
 
 -- Settles as prescribed: in every history and for every b, an honest party holds, day and grade at every depth and its records, what its input
 -- and what it heard give; so do its decision and what it sends.

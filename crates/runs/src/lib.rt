@@ -1,6 +1,6 @@
 // Executions as their rules see them: what each call does, when it is refused, and what holds of every history of calls; theory alone, for
 // every lawful base agreement. Each function carries a theorem; its proof is what the check asks for.
-ghost use Rattle.runs.specs.Theorems.{CallsHaveOneOutcome, OpeningsHaveOneOutcome, OpeningsFollowTheRules, OverAfterThePlan, HistoriesKeepToTheirRoom, CountsWhatWasSent, SendsWhatHasAForm, SettlesAsPrescribed};
+ghost use Rattle.runs.specs.Theorems.{CallsHaveOneOutcome, OpeningsHaveOneOutcome, OpeningsFollowTheRules, OverAfterThePlan, HistoriesKeepToTheirRoom, CountsWhatWasSent, SendsAsPrescribed, SettlesAsPrescribed};
 
 // The rules allow exactly one outcome of every call in every state, and it can be computed.
 pub fn calls_have_one_outcome<B, G>() -> u8
@@ -45,10 +45,10 @@ pub fn counts_what_was_sent<B, G>() -> u8
     0
 }
 
-// In every history, in every open round, there stands from an honest party what it has to say, if that has a form, to all seats alike; from a
-// corrupt one nothing, or what could be injected; and nothing else.
-pub fn sends_what_has_a_form<B, G>() -> u8
-    ensures { SendsWhatHasAForm B G }
+// In every history, in every open round, there stands from an honest party what it has to say, to all seats alike; from a corrupt one nothing,
+// or what could be injected; and nothing else.
+pub fn sends_as_prescribed<B, G>() -> u8
+    ensures { SendsAsPrescribed B G }
 {
     0
 }
