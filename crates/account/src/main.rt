@@ -1,4 +1,6 @@
 // An account of the protocol's pieces: a graded agreement and a base agreement, each with a liar, from beginning to end, and a plan of rounds.
+#![tactic(auto)]
+
 mod liar;
 mod parties;
 mod planning;

@@ -1,7 +1,7 @@
 // The honest parties, and what reaches each of them in a round.
 ghost use Rattle.std.specs.Prelude.{◌≡◌, ◌<◌, ◌≤◌};
 ghost use Rattle.message.specs.Members.{most_parties};
-ghost use Rattle.graded.specs.Steps.{start, says as said-as, hear as heard};
+ghost use Rattle.graded.specs.Steps.{start, says as said_as, hear as heard};
 
 use crate::liar::{LIAR, lie};
 use graded::seats::Seat;
@@ -34,7 +34,7 @@ impl Party {
 
     // What it says to all in a role, if anything.
     pub(crate) fn says(&self, role: Role) -> Option<Message>
-        ensures { result ≡ said-as self.now.seat role }
+        ensures { result ≡ said_as self.now.seat role }
     {
         self.seat.says(role)
     }

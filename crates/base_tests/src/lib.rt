@@ -1,4 +1,6 @@
 // Tests of the base agreements: what may be said, what seats that relay answer, and the seat that is alone.
+#![tactic(auto)]
+
 #[cfg(test)]
 mod alone;
 #[cfg(test)]

@@ -2,7 +2,7 @@
 ghost use Rattle.std.specs.Prelude.{◌≡◌, ◌<◌, ◌≤◌, length};
 ghost use Rattle.message.specs.Members.{most_parties};
 ghost use Rattle.protocol.specs.Inboxes.{days};
-ghost use Rattle.graded.specs.Steps.{word as own-word, certificate as certificate-of, unless_disputed, start as at_first, says as said-as, send as sent, hear_echoes, hear_echo_certificates, hear_votes, hear_last, hear as heard, outcome as leaves-with};
+ghost use Rattle.graded.specs.Steps.{word as own_word, certificate as certificate_of, unless_disputed, start as at_first, says as said_as, send as sent, hear_echoes, hear_echo_certificates, hear_votes, hear_last, hear as heard, outcome as leaves_with};
 
 use crate::table::Role;
 use message::entries::{NamesDay, disputed, naming, reaching};
@@ -46,7 +46,7 @@ impl Seat {
     // What it says to all seats in a role, if anything.
     pub fn says(&self, role: Role) -> Option<Message>
         requires { self.now.own < most_parties }
-        ensures { result ≡ said-as self.now role }
+        ensures { result ≡ said_as self.now role }
     {
         match role {
             Role::Echo => word(self.own, Some(self.day)),
@@ -87,7 +87,7 @@ impl Seat {
 
     // The last step: the day and the grade that it leaves with.
     pub fn outcome(self) -> (Day, bool)
-        ensures { result ≡ leaves-with self }
+        ensures { result ≡ leaves_with self }
     {
         (self.day, self.grade)
     }
@@ -127,7 +127,7 @@ impl Seat {
 // A seat's own word on a day, if there is one.
 fn word(own: u32, day: Option<Day>) -> Option<Message>
     requires { own < most_parties }
-    ensures { result ≡ own-word own day }
+    ensures { result ≡ own_word own day }
 {
     match day {
         Some(day) => Some(Message {
@@ -141,7 +141,7 @@ fn word(own: u32, day: Option<Day>) -> Option<Message>
 // The certificate that a quorum of words on one day makes; all who said it sign it.
 fn certificate(seats: u32, words: &[Option<Message>]) -> Option<Message>
     requires { length words.now ≤ most_parties }
-    ensures { result ≡ certificate-of seats (days words.now) }
+    ensures { result ≡ certificate_of seats (days words.now) }
 {
     match reaching(words, quorum(seats) as usize) {
         Some(day) => Some(Message {

@@ -1,4 +1,6 @@
 // Tests of the ground: sets of signers, counts, refusals, and the graded agreement's forms and rounds.
+#![tactic(auto)]
+
 #[cfg(test)]
 mod counts;
 #[cfg(test)]

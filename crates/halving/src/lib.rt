@@ -1,5 +1,7 @@
 // Why committees that agree by halves agree, and at what cost: theory alone, for every lawful base agreement and every lawful graded
 // agreement, against an adversary that takes over parties as it goes on. Each function carries a theorem; its proof is what the check asks for.
+#![tactic(auto)]
+
 ghost use Rattle.halving.specs.Frozen.{PlaysFreeze};
 ghost use Rattle.halving.specs.Theorems.{HalvesAgree, HalvingStaysWithinBound, ExecutionsExist, HonestExecutionsEndSure};
 

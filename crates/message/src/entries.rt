@@ -1,7 +1,7 @@
 // Entries that may name a day: one count, and what is read off it.
 ghost use Rattle.std.specs.Prelude.{◌≡◌, ℕ, ◌≤◌, map, length, Option};
 ghost use Rattle.message.specs.Members.{gathered, most_parties};
-ghost use Rattle.message.specs.Tally.{slot_day, names, differs, entry as entry_at, tally, earlier, passing, reaches, reaching as lowest-reaching, LowestReaching, TellsDispute};
+ghost use Rattle.message.specs.Tally.{slot_day, names, differs, entry as entry_at, tally, earlier, passing, reaches, reaching as lowest_reaching, LowestReaching, TellsDispute};
 
 use crate::{Day, Message, Signers, before};
 
@@ -44,7 +44,7 @@ fn is_for(entry: Option<Day>, day: Day) -> bool
 
 // How many entries name the day.
 pub fn count<T: NamesDay>(entries: &[T], day: Day) -> usize
-    ensures { result ≡ tally (map named entries.now) day }
+    ensures { result ≡ tally (map T.named entries.now) day }
 {
     let mut n: usize = 0;
     for x in entries {
@@ -57,7 +57,7 @@ pub fn count<T: NamesDay>(entries: &[T], day: Day) -> usize
 
 // The day, if there is one and at least `mark` entries name it; none passes a mark of 0.
 fn passing_mark<T: NamesDay>(entries: &[T], mark: usize, day: Option<Day>) -> Option<Day>
-    ensures { result ≡ passing (reaches mark (map named entries.now)) day }
+    ensures { result ≡ passing (reaches mark (map T.named entries.now)) day }
 {
     match day {
         Some(u) if mark > 0 && count(entries, u) >= mark => day,
@@ -78,8 +78,8 @@ fn earlier_of(a: Option<Day>, b: Option<Day>) -> Option<Day>
 
 // The lowest day that at least `mark` entries name, if there is one; no day reaches a mark of 0. Whoever looks for a quorum looks here.
 pub fn reaching<T: NamesDay>(entries: &[T], mark: usize) -> Option<Day>
-    ensures is { result ≡ lowest-reaching mark (map named entries.now) }
-    ensures means { LowestReaching mark (map named entries.now) result }
+    ensures is { result ≡ lowest_reaching mark (map T.named entries.now) }
+    ensures means { LowestReaching mark (map T.named entries.now) result }
 {
     let mut best = None;
     for x in entries {
@@ -100,7 +100,7 @@ fn is_against(entry: Option<Day>, day: Day) -> bool
 
 // Whether some entry names another day.
 pub fn disputed<T: NamesDay>(entries: &[T], day: Day) -> bool
-    ensures { TellsDispute (map named entries.now) day result }
+    ensures { TellsDispute (map T.named entries.now) day result }
 {
     for x in entries {
         if is_against(x.day(), day) {
@@ -113,7 +113,7 @@ pub fn disputed<T: NamesDay>(entries: &[T], day: Day) -> bool
 // The places of the entries that name the day, as a set.
 pub fn naming<T: NamesDay>(entries: &[T], day: Day) -> Signers
     requires { length entries.now ≤ most_parties }
-    ensures { result.mask ≡ gathered (λ i. names day (entry_at (map named entries.now) i)) (length entries.now) }
+    ensures { result.mask ≡ gathered (λ i. names day (entry_at (map T.named entries.now) i)) (length entries.now) }
 {
     let mut set = Signers::none();
     for (i, x) in entries.iter().enumerate() {

@@ -1,6 +1,8 @@
 // Days, sets of signers and messages: the words that every layer above speaks in.
+#![tactic(auto)]
+
 ghost use Rattle.std.specs.Prelude.{◌≡◌};
-ghost use Rattle.message.specs.Tally.{before as comes-before};
+ghost use Rattle.message.specs.Tally.{before as comes_before};
 
 mod bits;
 pub mod entries;
@@ -27,7 +29,7 @@ pub struct Message {
 
 // Whether day u comes before day v: the one order by which lowest days are chosen.
 pub fn before(u: Day, v: Day) -> bool
-    ensures { result ≡ comes-before u v }
+    ensures { result ≡ comes_before u v }
 {
     u < v
 }

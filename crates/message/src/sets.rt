@@ -1,6 +1,6 @@
 // Sets of signers: each is one word, and its members are the numbers in it.
 ghost use Rattle.std.specs.Prelude.{◌≡◌, ℕ, ◌+◌, ◌-◌, ◌*◌, ◌^◌, ◌<◌, ◌≤◌, true, false, ◌&&◌, ◌||◌, ltb, MatchOption, ◌==◌, nat_eq, nat_le, nat_lt};
-ghost use Rattle.message.specs.Members.{member, size, Holds, TellsSubset, quorum as more-than-half, most_parties};
+ghost use Rattle.message.specs.Members.{member, size, Holds, TellsSubset, quorum as more_than_half, most_parties};
 
 use crate::{Signers, bits};
 
@@ -105,7 +105,7 @@ impl Signers {
 
 // More than half of the seats.
 pub fn quorum(seats: u32) -> u32
-    ensures { result ≡ more-than-half seats }
+    ensures { result ≡ more_than_half seats }
 {
     seats / 2 + 1
 }

@@ -1,4 +1,6 @@
 // What a protocol among k seats is, in rounds, and what it means to play it: the definitions stand in specs/.
+#![tactic(auto)]
+
 pub mod agreement;
 pub mod facts;
 pub mod slots;

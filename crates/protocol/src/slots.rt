@@ -1,12 +1,12 @@
 // How inboxes are read.
 ghost use Rattle.std.specs.Prelude.{◌≡◌, ◌≤◌, length, take, drop};
-ghost use Rattle.protocol.specs.Inboxes.{under as slots-under};
+ghost use Rattle.protocol.specs.Inboxes.{under as slots_under};
 
 use message::Message;
 
 // The slots of one topic, as many as there are seats; where an inbox ends early, as many as it has.
 pub fn under(inbox: &[Option<Message>], seats: u32, topic: u32) -> &[Option<Message>]
-    ensures are { result.now ≡ slots-under seats topic inbox.now }
+    ensures are { result.now ≡ slots_under seats topic inbox.now }
     ensures few { length result.now ≤ seats }
 {
     first(past(inbox, topic as usize * seats as usize), seats as usize)

@@ -1,5 +1,7 @@
 // Executions as their rules see them: what each call does, when it is refused, and what holds of every history of calls; theory alone, for
 // every lawful base agreement. Each function carries a theorem; its proof is what the check asks for.
+#![tactic(auto)]
+
 ghost use Rattle.runs.specs.Theorems.{CallsHaveOneOutcome, OpeningsHaveOneOutcome, OpeningsFollowTheRules, OverAfterThePlan, HistoriesKeepToTheirRoom, CountsWhatWasSent, SendsAsPrescribed, SettlesAsPrescribed};
 
 // The rules allow exactly one outcome of every call in every state, and it can be computed.

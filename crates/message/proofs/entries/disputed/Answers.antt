@@ -9,17 +9,17 @@ pub loop-x-preserved : goal.loop-x-preserved
 loop-x-preserved g c =
     let told =
     test_read g.T.NamesDay.named c.args.entries.now c.loop-x.x-index c.x-item.result c.day.result
-    c.loop-x-test.true c.x-item.is c.day.ensures (differs c.args.day) c.is-against.result
-    c.is-against.ensures in
-    below_more _ _ c.loop-x.invariant (told ∙ c.if-is-against.false)
+    c.loop-x-test.true c.x-item.is c.day.ensures (differs c.args.day) c.is_against.result
+    c.is_against.ensures in
+    below_more _ _ c.loop-x.invariant (told ∙ c.if-is_against.false)
 
-pub returns-then-is-against : goal.returns-then-is-against
-returns-then-is-against g c =
+pub returns-then-is_against : goal.returns-then-is_against
+returns-then-is_against g c =
     let told =
     test_read g.T.NamesDay.named c.args.entries.now c.loop-x.x-index c.x-item.result c.day.result
-    c.loop-x-test.true c.x-item.is c.day.ensures (differs c.args.day) c.is-against.result
-    c.is-against.ensures in
-    dispute_at _ _ c.loop-x.x-index (told ∙ c.if-is-against.true)
+    c.loop-x-test.true c.x-item.is c.day.ensures (differs c.args.day) c.is_against.result
+    c.is_against.ensures in
+    dispute_at _ _ c.loop-x.x-index (told ∙ c.if-is_against.true)
 
 pub returns : goal.returns
 returns g c =

@@ -11,9 +11,9 @@ loop-x-preserved g c =
     let read =
     entry_read g.T.NamesDay.named c.args.entries.now c.loop-x.x-index c.x-item.result c.day.result
     c.loop-x-test.true c.x-item.is c.day.ensures in
-    lowest_more (reaches c.args.mark days) days c.loop-x.x-index c.day.result c.passing-mark.result
-    c.loop-x.best c.earlier-of-best.result (rw length-map c.loop-x-test.true) read c.passing-mark.ensures
-    c.loop-x.invariant c.earlier-of-best.ensures
+    lowest_more (reaches c.args.mark days) days c.loop-x.x-index c.day.result c.passing_mark.result
+    c.loop-x.best c.earlier_of-best.result (rw length-map c.loop-x-test.true) read c.passing_mark.ensures
+    c.loop-x.invariant c.earlier_of-best.ensures
 
 pub returns : goal.returns
 unfolding reaching

@@ -4,8 +4,8 @@ use Rattle.committee.proofs.Trees.{bound_small}
 use Rattle.committee.proofs.Totals.{bound_step, bound_few}
 use Rattle.committee.proofs.sizes.Sizes.+bound.Goals as goal
 
-pub overflow-sub-result : goal.overflow-sub-result
-overflow-sub-result t c = omega (arith, mul-le-mul_left c.args.size c.requires.0)
+pub overflow_sub-result : goal.overflow_sub-result
+overflow_sub-result t c = omega (arith, mul-le-mul_left c.args.size c.requires.0)
 
 pub returns-then-size-self : goal.returns-then-size-self
 returns-then-size-self t c = record {
