@@ -96,7 +96,7 @@ pub trait BaseAgreement {
 
 // The most seats of a base agreement: 1 to 4.
 pub fn most_seats<A: BaseAgreement>() -> u32
-    ensures is { result ≡ meaning.most }
+    ensures is { result ≡ A.meaning.most }
     ensures some { 1 ≤ result }
     ensures few { result ≤ 4 }
 {
@@ -105,8 +105,8 @@ pub fn most_seats<A: BaseAgreement>() -> u32
 
 // The rounds of a base agreement: at most 16, and at least one where several seats are to agree.
 pub fn rounds_among<A: BaseAgreement>(seats: u32) -> u32
-    requires { Seats meaning seats }
-    ensures is { result ≡ meaning.rounds seats }
+    requires { Seats A.meaning seats }
+    ensures is { result ≡ A.meaning.rounds seats }
     ensures short { result ≤ 16 }
     ensures some { 2 ≤ seats → 1 ≤ result }
 {
