@@ -1,10 +1,3 @@
 pub mod Alone
 pub mod Relaying
-pub mod AloneLemmas
-pub mod Placing
-pub mod Agreeing
-pub mod Gathering
-pub mod Folding
-pub mod Leading
-pub mod RelayingLemmas
-pub mod Spending
+pub mod Laws

@@ -1,7 +1,6 @@
 // The base agreement of one seat, which agrees with itself: its day is its input, and nothing is said.
 ghost use Rattle.base.specs.Alone.{lone};
-ghost use Rattle.base.specs.AloneLemmas.{agrees, stays_within_bound};
-ghost use Rattle.std.proofs.Common.{rules};
+ghost use Rattle.base.specs.Laws.Alone.{sized as seats_are_sized, agrees, stays_within_bound, keeps_discipline};
 
 use message::{Day, Message, Signers};
 use protocol::Form;
@@ -19,13 +18,13 @@ impl BaseAgreement for Lone {
 
     ghost kept = { λ _. Unit {0} };
 
-    ghost sized = { Prim.search rules };
+    ghost sized = { seats_are_sized };
 
     ghost agreement = { agrees };
 
     ghost cost = { stays_within_bound };
 
-    ghost discipline = { Prim.search rules };
+    ghost discipline = { keeps_discipline };
 
     fn max_seats() -> u32 {
         Self::SEATS

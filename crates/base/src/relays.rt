@@ -3,10 +3,10 @@ ghost use Rattle.std.specs.Prelude.{◌≡◌, ◌<◌, ◌≤◌, ◌≢◌};
 ghost use Rattle.message.specs.Members.{most_parties};
 ghost use Rattle.protocol.specs.Inboxes.{days};
 ghost use Rattle.base.specs.Relaying.{both, due, add, gather, only_day, entry_under, entries_of, word, relays};
-ghost use Rattle.base.specs.Placing;
-ghost use Rattle.base.specs.Agreeing.{agrees};
-ghost use Rattle.base.specs.Spending.{stays_within_bound};
-ghost use Rattle.base.specs.RelayingLemmas.{keeps_discipline};
+ghost use Rattle.base.specs.Laws.Placing.{sized as seats_are_sized};
+ghost use Rattle.base.specs.Laws.Agreeing.{agrees};
+ghost use Rattle.base.specs.Laws.Spending.{stays_within_bound};
+ghost use Rattle.base.specs.Laws.Relaying.{keeps_discipline};
 
 use crate::most::most_named;
 use message::entries::NamesDay;
@@ -43,7 +43,7 @@ impl BaseAgreement for Relays {
 
     ghost kept = { λ s. (s.seats ≤ 4) × (s.own < s.seats) };
 
-    ghost sized = { Placing.sized };
+    ghost sized = { seats_are_sized };
 
     ghost agreement = { agrees };
 

@@ -6,7 +6,7 @@ use Rattle.std.proofs.lemmas.Bool.{cases_eq}
 use Rattle.committee.specs.declared.sizes.Sizes.{Sizes}
 use Rattle.committee.specs.declared.stages.Committee.{Committee}
 use Rattle.committee.specs.declared.stages.Part.TheVariants.{FirstGraded, FirstReport, SecondGraded, SecondReport, Base}
-use Rattle.committee.specs.Tree.{Tree, node, size, first_half, second_half, committees}
+use Rattle.committee.specs.Tree.{Tree, node, first_half, second_half, committees}
 use Rattle.committee.specs.Plan.{duration, committee_of, plan}
 use Rattle.committee.specs.Numbers.{base_rounds, graded_rounds, total_of, plan_of, first_half_of, second_half_of, Halvable, Fits}
 use Rattle.committee.proofs.Trees.{small, large, committee_low, committee_size}

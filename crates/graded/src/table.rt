@@ -10,9 +10,6 @@ use message::refusals::Refusal;
 use message::sets::quorum;
 use protocol::Form;
 
-// How many rounds a graded agreement takes.
-pub const ROUNDS: u32 = 4;
-
 // The parts that messages play. A certificate puts together what a quorum of seats has said.
 #[derive(Clone, Copy, PartialEq, Eq, Debug)]
 pub enum Role {

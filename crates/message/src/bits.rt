@@ -1,5 +1,5 @@
 // One machine word as a set of numbers: bit i stands for the number i.
-ghost use Rattle.std.specs.Prelude.{◌≡◌, ℕ, ◌+◌, ◌-◌, ◌*◌, ◌/◌, ◌^◌, ◌<◌, ◌≤◌, true, false, ◌&&◌, ◌||◌, ltb, MatchBool, ◌==◌, nat_eq, nat_le, nat_lt};
+ghost use Rattle.std.specs.Prelude.{◌≡◌, ℕ, ◌+◌, ◌-◌, ◌*◌, ◌/◌, ◌^◌, ◌<◌, ◌≤◌, true, false, ◌&&◌, ◌||◌, MatchBool, ◌==◌, nat_eq, nat_le, nat_lt};
 ghost use Rattle.message.specs.Members.{member, size, Holds, TellsSubset, width};
 
 // A machine word.
@@ -29,7 +29,7 @@ pub(crate) fn single(i: u32) -> Word
 pub(crate) fn low(k: u32) -> Word
     requires { k ≤ width }
     ensures is { result ≡ 2 ^ k - 1 }
-    ensures members { Holds result (λ j. ltb j k) }
+    ensures members { Holds result (λ j. nat_lt j k) }
 {
     if k == 0 {
         none()

@@ -1,5 +1,5 @@
 // Sets of signers: each is one word, and its members are the numbers in it.
-ghost use Rattle.std.specs.Prelude.{◌≡◌, ℕ, ◌+◌, ◌-◌, ◌*◌, ◌^◌, ◌<◌, ◌≤◌, true, false, ◌&&◌, ◌||◌, ltb, MatchOption, ◌==◌, nat_eq, nat_le, nat_lt};
+ghost use Rattle.std.specs.Prelude.{◌≡◌, ℕ, ◌+◌, ◌-◌, ◌*◌, ◌^◌, ◌<◌, ◌≤◌, true, false, ◌&&◌, ◌||◌, MatchOption, ◌==◌, nat_eq, nat_le, nat_lt};
 ghost use Rattle.message.specs.Members.{member, size, Holds, TellsSubset, quorum as more_than_half, most_parties};
 
 use crate::{Signers, bits};
@@ -31,7 +31,7 @@ impl Signers {
     pub fn first(seats: u32) -> Signers
         requires { seats ≤ most_parties }
         ensures is { result.mask ≡ 2 ^ seats - 1 }
-        ensures members { Holds result.mask (λ i. ltb i seats) }
+        ensures members { Holds result.mask (λ i. nat_lt i seats) }
     {
         Signers {
             mask: bits::low(seats),

@@ -13,7 +13,7 @@ use Rattle.runs.specs.State.{Party, State, room, here, nobody}
 use Rattle.runs.specs.Round.{work, topics_for, party_of, seat_of, ready, spoken}
 use Rattle.runs.specs.Hearing.{hears_in}
 use Rattle.runs.specs.Wire.{Slots, slot, used, Place, stands, to_parties, inbox_of}
-use Rattle.runs.specs.Rules.{speaks, said_by, Opens, Ends, Goes_on, Corrupted, Injected, Heard, Closed}
+use Rattle.runs.specs.Rules.{speaks, said_by, Opens, Ends, GoesOn, Corrupted, Injected, Heard, Closed}
 use Rattle.runs.specs.Machine.{rewired, topic_of, sender_of, silenced, after_corrupting, after_injecting, moved, after_hearing, slot_filled, after_opening, after_ending, going_on, after_closing}
 use Rattle.runs.specs.History.{seated, opened}
 use Rattle.runs.proofs.Fitting.{round_fits}
@@ -207,7 +207,7 @@ module _ {B G : Type 0} (a : Meaning B) (g : Grading G) where
     }
 
   module _ (sized : Sized a) where
-    next : (o : Option Stage) (old : State B G) → here a g old ≡ o → room old.parties ≤ length old.wire → Goes_on a g o old (going_on a g o old)
+    next : (o : Option Stage) (old : State B G) → here a g old ≡ o → room old.parties ≤ length old.wire → GoesOn a g o old (going_on a g o old)
     unfolding going_on
     next None old e fits = ending old
     next (Some st) old e fits = opening st old (round_fits a g sized old.parties old.closings st e).slots fits
@@ -224,6 +224,6 @@ module _ {B G : Type 0} (a : Meaning B) (g : Grading G) where
         }
 
     pub opens : (n b : ℕ) (inputs : List ℕ) (wire : List (Option Message)) → room n ≤ length wire
-        → let s = seated a g n b inputs wire in Goes_on a g (here a g s) s (opened a g n b inputs wire)
+        → let s = seated a g n b inputs wire in GoesOn a g (here a g s) s (opened a g n b inputs wire)
     unfolding opened seated
     opens n b inputs wire long = next (here a g (seated a g n b inputs wire)) (seated a g n b inputs wire) refl long

@@ -12,7 +12,7 @@ use Rattle.runs.specs.State.{State, room, here, nobody, signed_on}
 use Rattle.runs.specs.Round.{party_of, seat_of, says_in, kind_in}
 use Rattle.runs.specs.Wire.{Slots, Place, stands, to_parties}
 use Rattle.runs.specs.Calls.{message, Call, injects, Formed, Exists, Applies, bad_signers, sender_honest, not_seated, no_form, no_signature}
-use Rattle.runs.specs.Rules.{Answer, said_by, Opens, Goes_on, Corrupted, Injected, Does, corrupted, injected, closed, decision, signatures, closings, refuses, accepts}
+use Rattle.runs.specs.Rules.{Answer, said_by, Opens, GoesOn, Corrupted, Injected, Does, corrupted, injected, closed, decision, signatures, closings, refuses, accepts}
 use Rattle.runs.specs.History.{seated, opened, History, begins, goes_on}
 use Rattle.runs.specs.Fair.{Injectable, Fair}
 use Rattle.runs.proofs.Acting.{opens}
@@ -138,7 +138,7 @@ module _ {B G : Type 0} (a : Meaning B) (g : Grading G) where
   one_stage : (x y : State B G) (st st' : Stage) → here a g x ≡ Some st → here a g y ≡ Some st' → here a g y ≡ here a g x → st ≡ st'
   one_stage x y st st' e e' same = cc
 
-  fair_going_on : (o : Option Stage) (s new : State B G) → here a g s ≡ o → Goes_on a g o s new → (st : Stage) → here a g new ≡ Some st → Fair a g st new
+  fair_going_on : (o : Option Stage) (s new : State B G) → here a g s ≡ o → GoesOn a g o s new → (st : Stage) → here a g new ≡ Some st → Fair a g st new
   fair_going_on None s new over on st e = let same = same_stage a g None s new on in absurd (true≢false cc)
   fair_going_on (Some st') s new now on st e =
       subst (λ x. Fair a g x new) (one_stage s new st' st now e (same_stage a g (Some st') s new on)) (fair_opening st' s new on)

@@ -13,7 +13,7 @@ use Rattle.committee.specs.Plan.{plan}
 use Rattle.committee.proofs.Plans.{plan_length}
 use Rattle.runs.specs.State.{State, stage_at, here}
 use Rattle.runs.specs.Calls.{Call, corrupts, injects, closes, reads_decision, reads_signatures, reads_closings, Over, Applies, no_party_reads, corrupt_reads, not_over}
-use Rattle.runs.specs.Rules.{Answer, refused, Goes_on, Closed, Does, corrupted, injected, closed, decision, signatures, closings, refuses, accepts}
+use Rattle.runs.specs.Rules.{Answer, refused, GoesOn, Closed, Does, corrupted, injected, closed, decision, signatures, closings, refuses, accepts}
 use Rattle.runs.specs.Machine.{after_opening, after_ending, going_on}
 use Rattle.runs.specs.History.{seated, opened, History, begins, goes_on, closing_of, accepted_closings}
 use Rattle.runs.specs.Theorems.{rounds_among, OverAfter}
@@ -49,12 +49,12 @@ module _ {B G : Type 0} (a : Meaning B) (g : Grading G) where
     pub limit : new.limit ≡ s.limit
     pub closings : new.closings ≡ more + s.closings
 
-  pub going_keeps : (o : Option Stage) (s new : State B G) → Goes_on a g o s new → Keeps 0 s new
+  pub going_keeps : (o : Option Stage) (s new : State B G) → GoesOn a g o s new → Keeps 0 s new
   going_keeps None s new x = record { parties = x.parties; limit = x.limit; closings = omega (arith, x.closings) }
   going_keeps (Some st) s new x = record { parties = x.parties; limit = x.limit; closings = omega (arith, x.closings) }
 
   -- who is corrupt is so before a round opens and after
-  pub going_corrupt : (o : Option Stage) (s new : State B G) → Goes_on a g o s new → new.corrupt ≡ s.corrupt
+  pub going_corrupt : (o : Option Stage) (s new : State B G) → GoesOn a g o s new → new.corrupt ≡ s.corrupt
   going_corrupt None s new on = on.corrupt
   going_corrupt (Some st) s new on = on.corrupt
 

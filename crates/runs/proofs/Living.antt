@@ -13,7 +13,7 @@ use Rattle.runs.specs.State.{State, room, stage_at, here, nobody, party}
 use Rattle.runs.specs.Round.{party_of, says_in}
 use Rattle.runs.specs.Wire.{Slots, Place, stands, to_parties}
 use Rattle.runs.specs.Calls.{Call}
-use Rattle.runs.specs.Rules.{Answer, speaks, Goes_on, Heard, Closed, Does, corrupted, injected, closed, decision, signatures, closings, refuses, accepts}
+use Rattle.runs.specs.Rules.{Answer, speaks, GoesOn, Heard, Closed, Does, corrupted, injected, closed, decision, signatures, closings, refuses, accepts}
 use Rattle.runs.specs.History.{beginner, seated, opened, History, begins, goes_on, closing_of}
 use Rattle.runs.specs.Life.{at_opening, at_closing, life, box_in, one_more_box, heard}
 use Rattle.runs.proofs.Acting.{opens}
@@ -28,11 +28,11 @@ module _ {B G : Type 0} (a : Meaning B) (g : Grading G) where
   honest_speaks st corrupt p honest = cond-false _ _ _ honest
 
   -- everybody is still there when a round opens
-  going_everybody : (o : Option Stage) (s new : State B G) → Goes_on a g o s new → length new.held ≡ length s.held
+  going_everybody : (o : Option Stage) (s new : State B G) → GoesOn a g o s new → length new.held ≡ length s.held
   going_everybody None s new on = ap length on.held
   going_everybody (Some st) s new on = on.everybody
 
-  opening_gives : (o : Option Stage) (s new : State B G) → Goes_on a g o s new → (p : ℕ) → p < length s.held → member p s.corrupt ≡ false
+  opening_gives : (o : Option Stage) (s new : State B G) → GoesOn a g o s new → (p : ℕ) → p < length s.held → member p s.corrupt ≡ false
       → party a g new p ≡ at_opening a g p o (party a g s p)
   opening_gives None s new on p h honest = ap (λ x. get_or x p (nobody a g)) on.held
   opening_gives (Some st) s new on p h honest =

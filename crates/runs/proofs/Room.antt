@@ -10,7 +10,7 @@ use Rattle.committee.specs.declared.stages.Stage.{Stage}
 use Rattle.runs.specs.State.{State, room, stage_at, here}
 use Rattle.runs.specs.Wire.{Slots, used, ElsewhereSame}
 use Rattle.runs.specs.Calls.{Call, corrupts, Over, Applies, no_party_corrupts, limit_reached}
-use Rattle.runs.specs.Rules.{Answer, Goes_on, Closed, Does, corrupted, injected, closed, decision, signatures, closings, refuses, accepts}
+use Rattle.runs.specs.Rules.{Answer, GoesOn, Closed, Does, corrupted, injected, closed, decision, signatures, closings, refuses, accepts}
 use Rattle.runs.specs.History.{seated, opened, History, begins, goes_on}
 use Rattle.runs.specs.Theorems.{KeepsToItsRoom}
 use Rattle.runs.proofs.Fitting.{round_fits}
@@ -34,7 +34,7 @@ module _ {B G : Type 0} (a : Meaning B) (g : Grading G) (sized : Sized a) where
     long : length new.wire ≡ length s.wire
     untouched : (x : ℕ) → room s.parties ≤ x → get_or new.wire x None ≡ get_or s.wire x None
 
-  going_on_keeps : (o : Option Stage) (s new : State B G) → here a g s ≡ o → Goes_on a g o s new → KeepsWire s new
+  going_on_keeps : (o : Option Stage) (s new : State B G) → here a g s ≡ o → GoesOn a g o s new → KeepsWire s new
   going_on_keeps None s new _ on = record { long = on.long; untouched = on.untouched }
   going_on_keeps (Some st) s new now on =
       let fits = fits_here s st now in record { long = on.long; untouched = λ x past. on.untouched x (omega (arith, fits, past)) past }
@@ -74,7 +74,7 @@ module _ {B G : Type 0} (a : Meaning B) (g : Grading G) (sized : Sized a) where
       let same : stage_at a g new.parties new.closings ≡ stage_at a g s.parties s.closings = rw (n, t) in
       true≢false cc
 
-  going_on_empties : (o : Option Stage) (s new : State B G) → here a g s ≡ o → Goes_on a g o s new → Over a g new → Empty new
+  going_on_empties : (o : Option Stage) (s new : State B G) → here a g s ≡ o → GoesOn a g o s new → Over a g new → Empty new
   going_on_empties None s new _ on _ = λ x h. on.empty x (subst (λ n. x < room n) on.parties h)
   going_on_empties (Some st) s new now on over = absurd (still_open s new st now on.parties on.closings over)
 

@@ -1,5 +1,5 @@
 -- The counter is what stood on the wire when rounds opened.
-use Rattle.std.proofs.Common.{◌≡◌, ℕ, ◌+◌, ◌*◌, ◌/◌, ◌%◌, ◌^◌, ◌<◌, ◌≤◌, List, length, Some, None, Option, sym, refl, ap, ◌∙◌, add-zero, arith}
+use Rattle.std.proofs.Common.{◌≡◌, ℕ, ◌+◌, ◌*◌, ◌/◌, ◌%◌, ◌^◌, ◌≤◌, List, length, Some, None, Option, sym, refl, ap, ◌∙◌, add-zero, arith}
 use Rattle.std.proofs.lemmas.Nat.{pow_pos, mod-mul-add, div-mul-add}
 use Rattle.std.proofs.lemmas.Bool.{eq-eqb, cond-true}
 use Rattle.message.specs.declared.Message.{Message}
@@ -11,7 +11,7 @@ use Rattle.runs.specs.State.{State, room, here}
 use Rattle.runs.specs.Round.{work, topics_for}
 use Rattle.runs.specs.Wire.{Slots, to_parties, to_seats}
 use Rattle.runs.specs.Calls.{Call}
-use Rattle.runs.specs.Rules.{Answer, refused, said_by, price, sent_in, Opens, Goes_on, Does, corrupted, injected, closed, decision, signatures, closings, refuses, accepts}
+use Rattle.runs.specs.Rules.{Answer, refused, said_by, price, sent_in, Opens, GoesOn, Does, corrupted, injected, closed, decision, signatures, closings, refuses, accepts}
 use Rattle.runs.specs.History.{seated, opened, History, begins, goes_on, closing_of}
 use Rattle.runs.specs.Sent.{on_copy, on_wire, standing_in, standing, sent}
 use Rattle.runs.proofs.Acting.{opens}
@@ -49,12 +49,12 @@ module _ {B G : Type 0} (a : Meaning B) (g : Grading G) where
       ∙ sum_constant (on_copy a g st t i said) st.committee.size
       ∙ sym (price_is st t i said)))
 
-  going_counts : (o : Option Stage) (s new : State B G) → Goes_on a g o s new → new.count ≡ s.count + standing_in a g o new.wire
+  going_counts : (o : Option Stage) (s new : State B G) → GoesOn a g o s new → new.count ≡ s.count + standing_in a g o new.wire
   going_counts None s new on = omega (arith, on.count)
   going_counts (Some st) s new on = on.counted ∙ ap (λ n. s.count + n) (sym (opening_stands st s new on))
 
   -- the open round is the same before and after a round opens
-  pub same_stage : (o : Option Stage) (s new : State B G) → Goes_on a g o s new → here a g new ≡ here a g s
+  pub same_stage : (o : Option Stage) (s new : State B G) → GoesOn a g o s new → here a g new ≡ here a g s
   same_stage None s new on = rw (on.parties, on.closings)
   same_stage (Some st) s new on = rw (on.parties, on.closings)
 

@@ -11,7 +11,7 @@ use Rattle.runs.specs.State.{Party, State, room, here, nobody}
 use Rattle.runs.specs.Round.{party_of, seat_of}
 use Rattle.runs.specs.Wire.{Place, stands, to_parties}
 use Rattle.runs.specs.Calls.{message, Call}
-use Rattle.runs.specs.Rules.{Answer, refused, speaks, said_by, sent_in, Opens, Ends, Goes_on, Corrupted, Injected, Heard, Closed, Does, corrupted, injected, closed, decision, signatures, closings, Outcome, refuses, accepts}
+use Rattle.runs.specs.Rules.{Answer, refused, speaks, said_by, sent_in, Opens, Ends, GoesOn, Corrupted, Injected, Heard, Closed, Does, corrupted, injected, closed, decision, signatures, closings, Outcome, refuses, accepts}
 use Rattle.runs.proofs.Slots.{same_wires}
 
 module _ {B G : Type 0} (a : Meaning B) (g : Grading G) where
@@ -118,14 +118,14 @@ module _ {B G : Type 0} (a : Meaning B) (g : Grading G) where
       (λ n _.
       ⊎_elim (λ inside. x.empty n inside ∙ sym (y.empty n inside)) (λ beyond. x.untouched n beyond ∙ sym (y.untouched n beyond)) (cases_lt n (room old.parties))))
 
-  one_way_on : (o : Option Stage) (old u v : State B G) → Goes_on a g o old u → Goes_on a g o old v → u ≡ v
+  one_way_on : (o : Option Stage) (old u v : State B G) → GoesOn a g o old u → GoesOn a g o old v → u ≡ v
   one_way_on None old u v x y = one_end old u v x y
   one_way_on (Some st) old u v x y = one_opening st old u v x y
 
   one_closing : (st : Stage) (old u v : State B G) → Closed a g st old u → Closed a g st old v → u ≡ v
   one_closing st old u v x y =
       let same = one_hearing st old x.between y.between x.heard y.heard in
-      one_way_on (here a g y.between) y.between u v (subst (λ m. Goes_on a g (here a g m) m u) same x.goes_on) y.goes_on
+      one_way_on (here a g y.between) y.between u v (subst (λ m. GoesOn a g (here a g m) m u) same x.goes_on) y.goes_on
 
   -- what an accepted call does
   one_doing : (s : State B G) {u v : State B G} {c : Call} {x y : Answer} → Does a g s c x u → Does a g s c y v → (x ≡ y) × (u ≡ v)

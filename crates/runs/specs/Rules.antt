@@ -66,9 +66,9 @@ module _ {B G : Type 0} (a : Meaning B) (g : Grading G) where
     pub untouched : (x : ℕ) → room old.parties ≤ x → slice_index_or new.wire x None ≡ slice_index_or old.wire x None
 
   -- the next round opens, if there is one
-  abbrev pub Goes_on : Option Stage → State B G → State B G → Type 0
-  Goes_on None old new = Ends old new
-  Goes_on (Some st) old new = Opens st old new
+  abbrev pub GoesOn : Option Stage → State B G → State B G → Type 0
+  GoesOn None old new = Ends old new
+  GoesOn (Some st) old new = Opens st old new
 
   -- A party is corrupted: what it sends in this round is gone, and nothing else changes.
   pub record Corrupted (st : Stage) (p : ℕ) (old new : State B G) : Type 0 where
@@ -111,7 +111,7 @@ module _ {B G : Type 0} (a : Meaning B) (g : Grading G) where
   pub record Closed (st : Stage) (old new : State B G) : Type 0 where
     pub between : State B G
     pub heard : Heard st old between
-    pub goes_on : Goes_on (here a g between) between new
+    pub goes_on : GoesOn (here a g between) between new
 
   -- what an accepted call answers and does
   pub data Does (s : State B G) : Call → Answer → State B G → Type 0 where

@@ -11,7 +11,7 @@ use Rattle.runs.specs.State.{State, room, here, party, day_at}
 use Rattle.runs.specs.Round.{party_of, says_in}
 use Rattle.runs.specs.Wire.{Place, stands, to_parties}
 use Rattle.runs.specs.Calls.{Call, reads_decision, Over}
-use Rattle.runs.specs.Rules.{Answer, reads, Goes_on, Outcome}
+use Rattle.runs.specs.Rules.{Answer, reads, GoesOn, Outcome}
 use Rattle.runs.specs.Machine.{after, answer}
 use Rattle.runs.specs.History.{seated, opened, History, accepted_closings}
 use Rattle.runs.specs.Opening.{Entry, Opening, entry, left_by}
@@ -38,7 +38,7 @@ OpeningsHaveOneOutcome B G =
 abbrev pub OpeningsFollowTheRules : Type 0 → Type 0 → Type 0
 OpeningsFollowTheRules B G =
     (a : Meaning B) (g : Grading G) → Sized a → (n b : ℕ) (inputs : List ℕ) (wire : List (Option Message)) → room n ≤ length wire
-    → let s = seated a g n b inputs wire in Goes_on a g (here a g s) s (opened a g n b inputs wire)
+    → let s = seated a g n b inputs wire in GoesOn a g (here a g s) s (opened a g n b inputs wire)
 
 -- the rounds of n parties
 abbrev pub rounds_among : {B G : Type 0} → Meaning B → Grading G → ℕ → ℕ

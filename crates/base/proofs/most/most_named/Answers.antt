@@ -2,7 +2,7 @@ use Rattle.std.proofs.Common.{None, fold, sym, ap, ◌∙◌, subst}
 use Rattle.std.proofs.lemmas.List.{take_all}
 use Rattle.std.proofs.lemmas.List.Sums.{fold_more}
 use Rattle.base.specs.Relaying.{leader, MostNamed}
-use Rattle.base.specs.Leading.{most_named_means}
+use Rattle.base.specs.Laws.Leading.{most_named_means}
 use Rattle.base.proofs.most.most_named.Goals as goal
 
 pub loop-x-preserved : goal.loop-x-preserved

@@ -1,4 +1,4 @@
-use Rattle.base.specs.Placing.{two_together}
+use Rattle.base.specs.Laws.Placing.{two_together}
 use Rattle.base.proofs.relays.of_two.Goals as goal
 
 pub returns : goal.returns

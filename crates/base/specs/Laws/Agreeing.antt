@@ -17,10 +17,10 @@ use Rattle.protocol.proofs.Arriving.{was_honest}
 use Rattle.base.specs.declared.relays.Seen.TheVariants.{One}
 use Rattle.base.specs.declared.relays.Relay.{Relay}
 use Rattle.base.specs.Relaying.{alone, both, only_day, seen_under, entry_under, entries_of, most_named, MostNamed, signed, relays}
-use Rattle.base.specs.Gathering.{sees_same, same_seen}
-use Rattle.base.specs.Leading.{most_named_means}
-use Rattle.base.specs.Placing.{Place, due_first, due_second, formed_place, topic_signs}
-use Rattle.base.specs.RelayingLemmas.{P, its_seats, its_day, says_is, says_input_or_heard, said_place, Heard, sees, entry_heard, heard_place, Origin, origin, heard_day}
+use Rattle.base.specs.Laws.Gathering.{sees_same, same_seen}
+use Rattle.base.specs.Laws.Leading.{most_named_means}
+use Rattle.base.specs.Laws.Placing.{Place, due_first, due_second, formed_place, topic_signs}
+use Rattle.base.specs.Laws.Relaying.{P, its_seats, its_day, says_is, says_input_or_heard, said_place, Heard, sees, entry_heard, heard_place, Origin, origin, heard_day}
 
 -- ---- one seat's entries
 

@@ -5,7 +5,7 @@ use Rattle.std.proofs.lemmas.Bool.{cases_lt, or_cases, or_parts, and_parts, and_
 use Rattle.message.specs.Tally.{before, tally}
 use Rattle.message.proofs.Tallying.{named_somewhere, counted}
 use Rattle.base.specs.Relaying.{ahead, leader, most_named, MostNamed}
-use Rattle.base.specs.Folding.{Named, about_all}
+use Rattle.base.specs.Laws.Folding.{Named, about_all}
 
 module _ (entries : List (Option ℕ)) where
   -- day d is named at least as often as u, and more often if u comes before it

@@ -5,7 +5,7 @@ use Rattle.std.proofs.lemmas.Bool.{cond_both, eqb-true, eqb-false}
 use Rattle.base.specs.declared.relays.Seen.{Seen}
 use Rattle.base.specs.declared.relays.Seen.TheVariants.{Nothing, One, Several}
 use Rattle.base.specs.Relaying.{add, gather, only_day}
-use Rattle.base.specs.Folding.{Named, about_all}
+use Rattle.base.specs.Laws.Folding.{Named, about_all}
 
 -- just the days N have been seen
 abbrev pub Sees : (ℕ → Type 0) → Seen → Type 0

@@ -20,9 +20,9 @@ use Rattle.protocol.proofs.Arriving.{arrives}
 use Rattle.base.specs.declared.relays.Seen.TheVariants.{Nothing}
 use Rattle.base.specs.declared.relays.Relay.{Relay}
 use Rattle.base.specs.Relaying.{due, gather, only_day, seen_under, entry_under, word, signed, hear, relays}
-use Rattle.base.specs.Folding.{Named}
-use Rattle.base.specs.Gathering.{Sees, sees_same, sees_all, only_seen}
-use Rattle.base.specs.Placing.{Place, due_place, sender_signs, topic_signs, due_listed, formed_place, no_certificate, signed_is}
+use Rattle.base.specs.Laws.Folding.{Named}
+use Rattle.base.specs.Laws.Gathering.{Sees, sees_same, sees_all, only_seen}
+use Rattle.base.specs.Laws.Placing.{Place, due_place, sender_signs, topic_signs, due_listed, formed_place, no_certificate, signed_is}
 
 abbrev pub P : Protocol Relay
 P = protocol_of relays

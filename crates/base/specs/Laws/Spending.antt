@@ -13,8 +13,8 @@ use Rattle.protocol.specs.Play.{Trace, says}
 use Rattle.protocol.specs.Cost.{on_one_copy, cost_of, spent_in, signatures}
 use Rattle.protocol.specs.Agreement.{base_topics, StaysWithinBound}
 use Rattle.base.specs.Relaying.{form, relays}
-use Rattle.base.specs.Placing.{Place, formed_place, no_certificate}
-use Rattle.base.specs.RelayingLemmas.{P, said_place}
+use Rattle.base.specs.Laws.Placing.{Place, formed_place, no_certificate}
+use Rattle.base.specs.Laws.Relaying.{P, said_place}
 
 signers_in : (k r t i mask : ℕ) → Place k r t i mask → size k mask ≤ suc r
 signers_in k r t i mask (inl x) =

@@ -1,11 +1,17 @@
--- One seat agrees with itself, at no cost.
-use Rattle.std.proofs.Common.{ap, arith}
+-- One seat agrees with itself, at no cost, and says nothing that could break discipline.
+use Rattle.std.proofs.Common.{ap, arith, rules}
 use Rattle.std.specs.Prelude.{ℕ, zero, suc, ◌*◌, ◌≤◌}
 use Rattle.message.specs.Count.{sum}
 use Rattle.protocol.specs.Play.{state}
 use Rattle.protocol.specs.Cost.{signatures}
-use Rattle.protocol.specs.Agreement.{Agrees, StaysWithinBound}
+use Rattle.protocol.specs.Agreement.{Sized, Agrees, StaysWithinBound, KeepsDiscipline}
 use Rattle.base.specs.Alone.{lone}
+
+pub sized : Sized lone
+sized = search rules
+
+pub keeps_discipline : KeepsDiscipline lone
+keeps_discipline = search rules
 
 pub agrees : Agrees lone
 unfolding state
