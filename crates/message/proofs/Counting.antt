@@ -212,22 +212,3 @@ pub sum_constant : (x n : ℕ) → sum (λ _. x) n ≡ n * x
 unfolding sum
 sum_constant x zero = omega arith
 sum_constant x (suc n) = let rest = sum_constant x n in omega (arith, rest)
-
-pub sum_append : (f : ℕ → ℕ) (a c : ℕ) → sum f (a + c) ≡ sum f a + sum (λ i. f (a + i)) c
-unfolding sum
-sum_append f a zero = rw (add-zero a) (omega arith)
-sum_append f a (suc c) = rw (add-suc a c) (let rest = sum_append f a c in omega (arith, rest))
-
-pub sum_both : (f g : ℕ → ℕ) (n : ℕ) → sum (λ i. f i + g i) n ≡ sum f n + sum g n
-unfolding sum
-sum_both f g zero = omega arith
-sum_both f g (suc n) = let rest = sum_both f g n in omega (arith, rest)
-
--- rows first or columns first
-pub sum_swap : (f : ℕ → ℕ → ℕ) (n m : ℕ) → sum (λ i. sum (λ j. f i j) m) n ≡ sum (λ j. sum (λ i. f i j) n) m
-unfolding sum
-sum_swap f zero m = sym (sum_constant 0 m ∙ omega arith)
-sum_swap f (suc n) m =
-    let rest = sum_swap f n m in
-    let both = sum_both (λ j. sum (λ i. f i j) n) (λ j. f n j) m in
-    omega (arith, rest, both)

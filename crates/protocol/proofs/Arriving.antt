@@ -1,17 +1,9 @@
 -- What arrives in a play, and from whom.
-use Rattle.std.proofs.Common.{◌≡◌, ℕ, zero, suc, ◌+◌, ◌<◌, true, false, ◌⊎◌, Some, sym, ap, ◌∙◌, subst, ap₂, inl, inr, arith}
+use Rattle.std.proofs.Common.{◌≡◌, ℕ, zero, suc, ◌+◌, ◌<◌, true, false, ◌⊎◌, Some, sym, ◌∙◌, subst, inl, inr, arith}
 use Rattle.std.proofs.lemmas.Bool.{cases_Bool, both_ways}
 use Rattle.message.specs.declared.Message.{Message}
 use Rattle.protocol.specs.Protocol.{Protocol}
-use Rattle.protocol.specs.Play.{Trace, state, hears, Sends, Possible, Play}
-
--- what a seat keeps is fixed by its input and what arrives at it
-pub same_states : {R : Type 0} (p : Protocol R) (k : ℕ) (tr tr' : Trace) (i : ℕ) → tr.input i ≡ tr'.input i
-    → (n : ℕ) → ((r : ℕ) → r < n → tr.inbox (suc r) i ≡ tr'.inbox (suc r) i) → state p k tr n i ≡ state p k tr' n i
-unfolding state
-same_states p k tr tr' i input zero boxes = ap (p.start k i) input
-same_states p k tr tr' i input (suc n) boxes =
-    ap₂ (λ x box. p.hear x (suc n) box) (same_states p k tr tr' i input n (λ r h. boxes r (omega arith))) (boxes n (omega arith))
+use Rattle.protocol.specs.Play.{Trace, hears, Sends, Possible, Play}
 
 module _ {R : Type 0} (p : Protocol R) (k : ℕ) (tr : Trace) (play : Play p k tr) where
   -- who is honest when a round closes was honest when it opened
