@@ -6,6 +6,7 @@ mod parties;
 mod planning;
 mod relay_telling;
 mod relaying;
+mod rounds;
 mod telling;
 
 use std::io;
@@ -20,8 +21,10 @@ fn graded_agreement(rt: &HostRuntime) -> io::Result<()> {
     let mut honest = parties::enter();
     telling::opening(rt)?;
     for round in 1..=4 {
-        telling::speech(rt, round, &honest)?;
-        honest = parties::hear(honest, round);
+        rounds::speech(rt, round, &honest)?;
+        // five parties under two topics
+        let before = honest;
+        rounds::hear::<_, 10>(&before, &mut honest, round);
         telling::beliefs(rt, round, &honest)?;
     }
     Ok(())
@@ -31,8 +34,10 @@ fn base_agreement(rt: &HostRuntime) -> io::Result<()> {
     let mut honest = relaying::enter();
     relay_telling::opening(rt)?;
     for round in 1..=2 {
-        relay_telling::speech(rt, round, &honest)?;
-        honest = relaying::hear(honest, round);
+        rounds::speech(rt, round, &honest)?;
+        // four seats under four topics
+        let before = honest;
+        rounds::hear::<_, 16>(&before, &mut honest, round);
         relay_telling::seen(rt, &honest)?;
     }
     relay_telling::answers(rt, &honest)

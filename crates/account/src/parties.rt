@@ -1,19 +1,20 @@
-// The honest parties, and what reaches each of them in a round.
+// The honest parties of a graded agreement.
 ghost use Rattle.std.specs.Prelude.{◌≡◌, ◌<◌, ◌≤◌};
 ghost use Rattle.message.specs.Members.{most_parties};
-ghost use Rattle.graded.specs.Steps.{start, says as said_as, hear as heard};
+ghost use Rattle.graded.specs.Steps.{start, send as sent, hear as heard};
 
-use crate::liar::{LIAR, lie};
+use crate::liar::lie;
+use crate::rounds::Honest;
+use crate::telling::{Saying, Spoken};
 use graded::seats::Seat;
 use graded::table::Role;
 use message::{Day, Message};
+use protocol::Spot;
 
+// The parties with the one that lies.
 pub const PARTIES: u32 = 5;
 
 pub const INPUTS: [Day; 4] = [7, 7, 9, 4];
-
-// What reaches one party in a round: what party i says under topic t stands at t * 5 + i.
-type Inbox = [Option<Message>; 10];
 
 // An honest party. It is one of at most 32, as many as a set of signers has room for.
 #[derive(Clone, Copy)]
@@ -31,53 +32,49 @@ impl Party {
             seat: Seat::start(PARTIES, own, input),
         }
     }
+}
 
-    // What it says to all in a role, if anything.
-    pub(crate) fn says(&self, role: Role) -> Option<Message>
-        ensures { result ≡ said_as self.now.seat role }
-    {
-        self.seat.says(role)
+impl Honest for Party {
+    const CALLED: &'static str = "party";
+
+    const TOPICS: u32 = 2;
+
+    type Line = Spoken;
+
+    fn own(&self) -> u32 {
+        self.seat.own
     }
 
-    fn hear(self, round: u32, inbox: &Inbox) -> Party
+    fn says(&self, spot: Spot) -> Option<Message>
+        ensures { result ≡ sent self.now.seat spot.round spot.topic }
+    {
+        self.seat.send(spot)
+    }
+
+    fn is_told(&self, spot: Spot) -> Option<Message> {
+        Role::at(spot).and_then(|role| lie(role, &self.seat))
+    }
+
+    fn hear(self, round: u32, inbox: &[Option<Message>]) -> Party
         ensures { result.seat ≡ heard self.seat round inbox.now }
     {
         Party {
             seat: self.seat.hear(round, inbox),
         }
     }
+
+    fn line(spot: Spot, message: Message) -> Option<Spoken> {
+        Role::at(spot).map(|role| Spoken(Saying { role, message }))
+    }
 }
 
 // The honest parties before the first round.
 pub(crate) fn enter() -> [Party; 4] {
+    let [a, b, c, d] = INPUTS;
     [
-        Party::enter(0, INPUTS[0]),
-        Party::enter(1, INPUTS[1]),
-        Party::enter(2, INPUTS[2]),
-        Party::enter(3, INPUTS[3]),
+        Party::enter(0, a),
+        Party::enter(1, b),
+        Party::enter(2, c),
+        Party::enter(3, d),
     ]
-}
-
-// The honest parties after a round.
-pub(crate) fn hear(honest: [Party; 4], round: u32) -> [Party; 4] {
-    let mut after = honest;
-    for party in after.iter_mut() {
-        *party = party.hear(round, &inbox(&honest, round, &party.seat));
-    }
-    after
-}
-
-// From the honest parties everybody hears the same; only the liar's word depends on who hears it.
-fn inbox(honest: &[Party; 4], round: u32, listener: &Seat) -> Inbox {
-    let mut inbox = [None; 10];
-    for topic in 0..2 {
-        if let Some(role) = Role::at(round, topic) {
-            let row = (topic * PARTIES) as usize;
-            for (i, party) in honest.iter().enumerate() {
-                inbox[row + i] = party.says(role);
-            }
-            inbox[row + LIAR as usize] = lie(role, listener);
-        }
-    }
-    inbox
 }

@@ -1,20 +1,25 @@
-// The base agreement as text: who says what to whom, what each honest seat has then seen under each topic, and what it answers.
-use crate::relaying::{INPUTS, LIAR, Member, SEATS, lie};
-use crate::telling::{Signed, heading};
-use base::relays::Seen;
+// The base agreement as text: what is said, what each honest seat has then seen under each topic, and what it answers.
+use crate::relaying::{INPUTS, LIAR};
+use crate::rounds::Honest;
+use crate::telling::Signed;
+use base::keeping::Kept;
+use base::relays::Relays;
+use message::Message;
+use protocol::agreement::BaseAgreement;
 use std::{fmt, io};
 
-// What a seat has seen under a topic.
+// A message under a topic, said to somebody.
 #[derive(Clone, Copy)]
-struct Shown(Seen);
+pub(crate) struct UnderTopic {
+    pub(crate) topic: u32,
+    pub(crate) message: Message,
+}
 
-impl fmt::Display for Shown {
+impl fmt::Display for UnderTopic {
     fn fmt<W: fmt::Write>(&self, f: &mut fmt::Formatter<W>) -> fmt::Result {
-        match self.0 {
-            Seen::Nothing => f.write_str("nothing"),
-            Seen::One(day) => write!(f, "{day}"),
-            Seen::Several => f.write_str("several days"),
-        }
+        let topic = self.topic;
+        let signed = Signed(self.message);
+        write!(f, " under topic {topic}: {signed}")
     }
 }
 
@@ -26,49 +31,20 @@ pub(crate) fn opening(rt: &HostRuntime) -> io::Result<()> {
     )
 }
 
-// What everybody says in a round.
-pub(crate) fn speech(rt: &HostRuntime, round: u32, honest: &[Member; 3]) -> io::Result<()> {
-    heading(rt, round)?;
-    for topic in 0..SEATS {
-        words_to_all(rt, round, topic, honest)?;
-        lies(rt, round, topic)?;
-    }
-    Ok(())
-}
-
-fn words_to_all(rt: &HostRuntime, round: u32, topic: u32, honest: &[Member; 3]) -> io::Result<()> {
-    for (own, member) in honest.iter().enumerate() {
-        if let Some(message) = member.says(round, topic) {
-            let signed = Signed(message);
-            println!(rt; "  seat {own} says to all under topic {topic}: {signed}")?;
-        }
-    }
-    Ok(())
-}
-
-fn lies(rt: &HostRuntime, round: u32, topic: u32) -> io::Result<()> {
-    for peer in 0..INPUTS.len() {
-        if let Some(message) = lie(round, topic, peer) {
-            let signed = Signed(message);
-            println!(rt; "  seat {LIAR} says to seat {peer} under topic {topic}: {signed}")?;
-        }
-    }
-    Ok(())
-}
-
 // What each honest seat has seen so far, topic by topic.
-pub(crate) fn seen(rt: &HostRuntime, honest: &[Member; 3]) -> io::Result<()> {
-    for (own, member) in honest.iter().enumerate() {
-        let [a, b, c, d] = member.relay.seen;
-        let (a, b, c, d) = (Shown(a), Shown(b), Shown(c), Shown(d));
+pub(crate) fn seen(rt: &HostRuntime, honest: &[Kept; 3]) -> io::Result<()> {
+    for seat in honest {
+        let own = seat.own();
+        let [a, b, c, d] = seat.relay.seen;
         println!(rt; "  seat {own} has seen {a}, {b}, {c}, {d}")?;
     }
     Ok(())
 }
 
-pub(crate) fn answers(rt: &HostRuntime, honest: &[Member; 3]) -> io::Result<()> {
-    for (own, member) in honest.iter().enumerate() {
-        let day = member.day();
+pub(crate) fn answers(rt: &HostRuntime, honest: &[Kept; 3]) -> io::Result<()> {
+    for seat in honest {
+        let own = seat.own();
+        let day = Relays::day(seat);
         println!(rt; "seat {own} answers {day}")?;
     }
     Ok(())

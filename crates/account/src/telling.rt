@@ -1,11 +1,13 @@
-// The graded agreement as text: who says what to whom, what each honest party then believes, and what it leaves with.
+// The graded agreement as text: what is said, what each honest party then believes, and what it leaves with.
 ghost use Rattle.std.specs.Prelude.{◌≤◌};
 
-use crate::liar::{LIAR, lie};
+use crate::liar::LIAR;
 use crate::parties::{INPUTS, PARTIES, Party};
+use crate::rounds::Honest;
 use graded::table::Role;
 use message::Message;
 use message::sets::{MOST_PARTIES, quorum};
+use protocol::Spot;
 use std::{fmt, io};
 
 // A message: its day, and its signers where there are several.
@@ -19,10 +21,8 @@ impl fmt::Display for Signed {
         // one who signs alone speaks for itself, and is named in the line already
         if signers.len() > 1 {
             f.write_str(", signed by")?;
-            for signer in 0..MOST_PARTIES {
-                if signers.contains(signer) {
-                    write!(f, " {signer}")?;
-                }
+            for signer in (0..MOST_PARTIES).filter(|i| signers.contains(*i)) {
+                write!(f, " {signer}")?;
             }
         }
         Ok(())
@@ -31,27 +31,27 @@ impl fmt::Display for Signed {
 
 // A message and its role, which tells a vote from an echo.
 #[derive(Clone, Copy)]
-struct Saying {
-    role: Role,
-    message: Message,
+pub(crate) struct Saying {
+    pub(crate) role: Role,
+    pub(crate) message: Message,
 }
 
 impl fmt::Display for Saying {
     fn fmt<W: fmt::Write>(&self, f: &mut fmt::Formatter<W>) -> fmt::Result {
-        let name = name(self.role);
+        let role = self.role;
         let signed = Signed(self.message);
-        write!(f, "{name} {signed}")
+        write!(f, "{role} {signed}")
     }
 }
 
-// What a message in this role is called, before the day that it names.
-fn name(role: Role) -> &'static str {
-    match role {
-        Role::Echo => "echo",
-        Role::EchoCertificate => "certificate of echoes for",
-        Role::Vote => "vote for",
-        Role::VoteCertificate => "certificate of votes for",
-        Role::SecondVote => "second vote for",
+// The same, said to somebody.
+#[derive(Clone, Copy)]
+pub(crate) struct Spoken(pub(crate) Saying);
+
+impl fmt::Display for Spoken {
+    fn fmt<W: fmt::Write>(&self, f: &mut fmt::Formatter<W>) -> fmt::Result {
+        let saying = self.0;
+        write!(f, ": {saying}")
     }
 }
 
@@ -64,71 +64,42 @@ pub(crate) fn opening(rt: &HostRuntime) -> io::Result<()> {
     )
 }
 
-pub(crate) fn heading(rt: &HostRuntime, round: u32) -> io::Result<()> {
-    println!(rt; "round {round}")
-}
-
-// What everybody says in a round.
-pub(crate) fn speech(rt: &HostRuntime, round: u32, honest: &[Party; 4]) -> io::Result<()> {
-    heading(rt, round)?;
-    for topic in 0..2 {
-        if let Some(role) = Role::at(round, topic) {
-            words_to_all(rt, role, honest)?;
-            lies(rt, role, honest)?;
-        }
-    }
-    Ok(())
-}
-
-fn words_to_all(rt: &HostRuntime, role: Role, honest: &[Party; 4]) -> io::Result<()> {
-    for party in honest {
-        if let Some(message) = party.says(role) {
-            let own = party.seat.own;
-            let saying = Saying { role, message };
-            println!(rt; "  party {own} says to all: {saying}")?;
-        }
-    }
-    Ok(())
-}
-
-fn lies(rt: &HostRuntime, role: Role, honest: &[Party; 4]) -> io::Result<()> {
-    for party in honest {
-        if let Some(message) = lie(role, &party.seat) {
-            let peer = party.seat.own;
-            let saying = Saying { role, message };
-            println!(rt; "  party {LIAR} says to party {peer}: {saying}")?;
-        }
-    }
-    Ok(())
-}
-
 // What each honest party believes after a round, and at the end leaves with.
 pub(crate) fn beliefs(rt: &HostRuntime, round: u32, honest: &[Party; 4]) -> io::Result<()>
     requires { round ≤ 4 }
 {
-    let next = Role::at(round + 1, 0);
+    let next = Spot {
+        round: round + 1,
+        topic: 0,
+    };
     for party in honest {
-        belief(rt, next, party)?;
+        match Role::at(next) {
+            Some(role) => belief(rt, party, next, role)?,
+            None => leaving(rt, party)?,
+        }
     }
     Ok(())
 }
 
-// A party believes what it would say next. After the last round there is no next, and it leaves.
-fn belief(rt: &HostRuntime, next: Option<Role>, party: &Party) -> io::Result<()> {
-    let own = party.seat.own;
-    let Some(role) = next else {
-        let (day, sure) = party.seat.outcome();
-        let grade = u8::from(sure);
-        return println!(rt; "party {own} leaves with day {day} at grade {grade}");
-    };
+// A party believes what it would say next.
+fn belief(rt: &HostRuntime, party: &Party, next: Spot, role: Role) -> io::Result<()> {
+    let own = party.own();
     let (can, cannot) = outlook(role);
-    match party.says(role) {
+    match party.says(next) {
         Some(message) => {
             let saying = Saying { role, message };
             println!(rt; "  party {own} {can} {saying}")
         }
         None => println!(rt; "  party {own} {cannot}"),
     }
+}
+
+// After the last round there is no next, and it leaves.
+fn leaving(rt: &HostRuntime, party: &Party) -> io::Result<()> {
+    let own = party.own();
+    let (day, sure) = party.seat.outcome();
+    let grade = u8::from(sure);
+    println!(rt; "party {own} leaves with day {day} at grade {grade}")
 }
 
 // How a belief is worded: what comes before what the party would say, and what is said of a party that would say nothing.

@@ -1,5 +1,6 @@
 -- That the two agreements obey the laws of base agreements; an implementation cites its proofs of them from here.
 pub mod Alone
+pub mod Keeping
 pub mod Folding
 pub mod Gathering
 pub mod Leading

@@ -1,5 +1,6 @@
 -- The base agreement of up to four seats: each says its day, then passes on what each other seat said, and the day of most seats wins.
-use Rattle.std.specs.Prelude.{◌≡◌, ℕ, zero, suc, ◌+◌, ◌^◌, ◌<◌, ◌≤◌, Bool, true, cond, not, ◌&&◌, ◌||◌, List, map, replicate, Some, None, fold, Option, ◌==◌, nat_lt, slice_index_or}
+use Rattle.std.specs.Prelude.{◌≡◌, ℕ, zero, suc, ◌+◌, ◌^◌, ◌<◌, ◌≤◌, Bool, true, cond, not, ◌&&◌, ◌||◌, List, map, replicate, Some, None, fold, Option, ◌==◌, nat_lt, slice_index_or, codes}
+use Rattle.std.specs.Fmt.{decimal}
 use Rattle.std.specs.List.{range_with_len}
 use Rattle.std.specs.Option.{unwrap_or}
 use Rattle.message.specs.declared.Message.{Message}
@@ -66,6 +67,12 @@ abbrev pub only_day : Seen → Option ℕ
 only_day Nothing = None
 only_day (One v) = Some v
 only_day Several = None
+
+-- what is printed of it
+abbrev pub words : Seen → List ℕ
+words Nothing = codes "nothing"
+words (One v) = decimal v
+words Several = codes "several days"
 
 -- what a seat has seen under a topic
 abbrev pub seen_under : Relay → ℕ → Seen

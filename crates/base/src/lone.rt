@@ -1,10 +1,11 @@
 // The base agreement of one seat, which agrees with itself: its day is its input, and nothing is said.
+ghost use Rattle.std.specs.Prelude.{refl};
 ghost use Rattle.base.specs.Alone.{lone};
 ghost use Rattle.base.specs.Laws.Alone.{sized as seats_are_sized, agrees, stays_within_bound, keeps_discipline};
 
 use message::{Day, Message, Signers};
-use protocol::Form;
 use protocol::agreement::{BaseAgreement, Unformed};
+use protocol::{Form, Seating, Spot};
 
 pub struct Lone;
 
@@ -12,11 +13,19 @@ impl BaseAgreement for Lone {
     // its input
     type Record = Day;
 
+    type Plain = Day;
+
     const SEATS: u32 = 1;
+
+    ghost plain = { λ day. day };
+
+    ghost SEATS = { 1 };
 
     ghost meaning = { lone };
 
-    ghost kept = { λ _. Unit {0} };
+    ghost determined = { λ _ _ same. same };
+
+    ghost most = { refl };
 
     ghost sized = { seats_are_sized };
 
@@ -26,19 +35,15 @@ impl BaseAgreement for Lone {
 
     ghost discipline = { keeps_discipline };
 
-    fn max_seats() -> u32 {
-        Self::SEATS
-    }
-
     fn rounds(_seats: u32) -> u32 {
         0
     }
 
-    fn start(_seats: u32, _own: u32, input: Day) -> Day {
+    fn start(_own: Seating, input: Day) -> Day {
         input
     }
 
-    fn send(_seat: &Day, _round: u32, _topic: u32) -> Option<Message> {
+    fn send(_seat: &Day, _spot: Spot) -> Option<Message> {
         None
     }
 
@@ -46,13 +51,7 @@ impl BaseAgreement for Lone {
         seat
     }
 
-    fn form(
-        _seats: u32,
-        _round: u32,
-        _topic: u32,
-        _sender: u32,
-        _signers: Signers,
-    ) -> Result<Form, Unformed> {
+    fn form(_sender: Seating, _spot: Spot, _signers: Signers) -> Result<Form, Unformed> {
         Err(Unformed::NoSuchForm)
     }
 

@@ -1,25 +1,17 @@
 // The day that most entries name.
 ghost use Rattle.std.specs.Prelude.{◌≡◌};
-ghost use Rattle.message.specs.Tally.{tally};
 ghost use Rattle.base.specs.Relaying.{ahead, leader, most_named, MostNamed};
 
-use message::entries::{NamesDay, count};
-use message::{Day, before};
-
-// How many entries name the day.
-fn named_by(entries: &[Option<Day>], day: Day) -> usize
-    ensures { result ≡ tally entries.now day }
-{
-    count(entries, day)
-}
+use message::Day;
+use message::entries::count;
 
 // Whether more entries name day u than day v, or as many, and u comes before v.
 fn is_ahead(entries: &[Option<Day>], u: Day, v: Day) -> bool
     ensures { result ≡ ahead entries.now u v }
 {
-    let of_u = named_by(entries, u);
-    let of_v = named_by(entries, v);
-    of_v < of_u || of_v == of_u && before(u, v)
+    let of_u = count(entries, u);
+    let of_v = count(entries, v);
+    of_v < of_u || of_v == of_u && u < v
 }
 
 // Of two days, where there are two, the second if it is ahead.
@@ -27,9 +19,8 @@ fn leading(entries: &[Option<Day>], old: Option<Day>, new: Option<Day>) -> Optio
     ensures { result ≡ leader entries.now old new }
 {
     match (old, new) {
-        (Some(v), Some(u)) => if is_ahead(entries, u, v) { new } else { old },
-        (None, Some(_)) => new,
-        (_, None) => old,
+        (Some(v), Some(u)) if is_ahead(entries, u, v) => new,
+        _ => old.or(new),
     }
 }
 
@@ -38,9 +29,7 @@ pub fn most_named(entries: &[Option<Day>]) -> Option<Day>
     ensures is { result ≡ most_named entries.now }
     ensures means { MostNamed entries.now result }
 {
-    let mut best = None;
-    for x in entries {
-        best = leading(entries, best, *x);
-    }
-    best
+    entries
+        .iter()
+        .fold(None, |best, x| leading(entries, best, *x))
 }

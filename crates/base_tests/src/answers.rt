@@ -1,6 +1,9 @@
 // What seats that relay answer.
-use crate::seats::{Seat, days, hear_all, hear_lies, slot};
+use crate::seats::{days, hear_all, hear_lies, slot, start};
+use base::relays::Relays;
 use message::{Day, Message};
+use protocol::Seating;
+use protocol::agreement::BaseAgreement;
 
 #[test]
 fn honest_seats_answer_the_day_of_most_and_the_lowest_on_a_tie(rt: HostRuntime) {
@@ -11,14 +14,8 @@ fn honest_seats_answer_the_day_of_most_and_the_lowest_on_a_tie(rt: HostRuntime) 
         ([9, 8, 4, 6], 4),
         ([5, 5, 5, 5], 5),
     ];
-    for ([a, b, c, d], expected) in cases {
-        let seats = [
-            Seat::start(4, 0, a),
-            Seat::start(4, 1, b),
-            Seat::start(4, 2, c),
-            Seat::start(4, 3, d),
-        ];
-        let after = hear_all(hear_all(seats, 1), 2);
+    for (inputs, expected) in cases {
+        let after = hear_all(hear_all(start(inputs), 1), 2);
         assert_eq!(rt; days(&after), [expected; 4]);
     }
 }
@@ -34,12 +31,7 @@ fn honest_seats_answer_alike_whatever_a_liar_tells(rt: HostRuntime) {
         ([9, 7], [0, 0, 0], 7),
     ];
     for ([b, c], lies, expected) in cases {
-        let seats = [
-            Seat::start(3, 0, 4),
-            Seat::start(3, 1, b),
-            Seat::start(3, 2, c),
-        ];
-        let after = hear_lies(hear_lies(seats, 1, lies), 2, [0; 3]);
+        let after = hear_lies(hear_lies(start([4, b, c]), 1, lies), 2, [0; 3]);
         let [_, first, second] = days(&after);
         assert_eq!(rt; [first, second], [expected; 2]);
     }
@@ -47,16 +39,12 @@ fn honest_seats_answer_alike_whatever_a_liar_tells(rt: HostRuntime) {
 
 // Four slots under each of the four topics.
 fn filled(days: [Day; 16]) -> [Option<Message>; 16] {
-    let mut slots = [None; 16];
-    for (i, day) in days.iter().enumerate() {
-        slots[i] = slot(*day);
-    }
-    slots
+    days.map(slot)
 }
 
 #[test]
 fn a_topic_counts_if_one_day_was_seen_under_it(rt: HostRuntime) {
-    let seat = Seat::start(4, 3, 5);
+    let seat = Relays::start(Seating { seats: 4, own: 3 }, 5);
     let nothing = [0; 16];
     let mixed = [7, 0, 0, 0, 0, 9, 0, 0, 0, 0, 9, 0, 0, 0, 0, 7];
     let nine = [9, 0, 0, 0, 0, 0, 0, 0, 0, 0, 0, 0, 0, 0, 0, 0];
@@ -75,7 +63,8 @@ fn a_topic_counts_if_one_day_was_seen_under_it(rt: HostRuntime) {
         (mixed, others, 5),
     ];
     for (first, second, expected) in cases {
-        let after = seat.hear(1, &filled(first)).hear(2, &filled(second));
-        assert_eq!(rt; after.day(), expected);
+        let once = Relays::hear(seat, 1, &filled(first));
+        let twice = Relays::hear(once, 2, &filled(second));
+        assert_eq!(rt; Relays::day(&twice), expected);
     }
 }

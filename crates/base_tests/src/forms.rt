@@ -1,8 +1,8 @@
 // Which messages of seats that relay have a form.
 use base::relays::Relays;
 use message::Signers;
-use protocol::Form;
 use protocol::agreement::{BaseAgreement, Unformed};
+use protocol::{Form, Seating, Spot};
 
 const LISTED: Result<Form, Unformed> = Ok(Form::Listed);
 
@@ -13,7 +13,8 @@ fn seats_sign_their_own_day_and_then_those_that_they_pass_on(rt: HostRuntime) {
     let sender = Signers::only(1);
     let other = Signers::only(2);
     let both = Signers::only(1).with(2);
-    // what seat 1 of 3 sends: the round, the topic, the signers, and the form that it has
+    let seat = Seating { seats: 3, own: 1 };
+    // what it sends: the round, the topic, the signers, and the form that it has
     let cases = [
         (1, 1, sender, LISTED),
         (1, 1, other, REFUSED),
@@ -31,7 +32,7 @@ fn seats_sign_their_own_day_and_then_those_that_they_pass_on(rt: HostRuntime) {
         (3, 2, both, REFUSED),
     ];
     for (round, topic, signers, expected) in cases {
-        let found = Relays::form(3, round, topic, 1, signers);
+        let found = Relays::form(seat, Spot { round, topic }, signers);
         assert_eq!(rt; (round, topic, found), (round, topic, expected));
     }
 }

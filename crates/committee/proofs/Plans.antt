@@ -1,7 +1,9 @@
 -- Which stage stands at which place of a plan, and how long a plan is.
-use Rattle.std.proofs.Common.{◌≡◌, ℕ, zero, suc, ◌+◌, ◌*◌, ◌<◌, List, [], ◌∷◌, ◌++◌, map, length, Some, refl, ap, ◌∙◌, suc-add, arith, length-append}
-use Rattle.std.specs.List.{range_with_len, slice_get}
-use Rattle.std.proofs.lemmas.List.FromFn.{length-map-range_with_len}
+use Rattle.std.proofs.Common.{◌≡◌, ℕ, zero, suc, ◌+◌, ◌-◌, ◌*◌, ◌<◌, ◌≤◌, List, [], ◌∷◌, ◌++◌, length, Some, refl, ap, sym, ◌∙◌, ⊎_elim, suc-add, arith, append_assoc, length-append}
+use Rattle.std.specs.List.{slice_get}
+use Rattle.std.proofs.lemmas.Bool.{cases_lt}
+use Rattle.std.proofs.lemmas.List.FromFn.{get_or-map-range_with_len, length-map-range_with_len}
+use Rattle.std.proofs.lemmas.Option.{slice_get_past, slice_get_read}
 use Rattle.committee.specs.declared.stages.Committee.{Committee}
 use Rattle.committee.specs.declared.stages.Part.{Part}
 use Rattle.committee.specs.declared.stages.Part.TheVariants.{FirstGraded, FirstReport, SecondGraded, SecondReport, Base}
@@ -10,31 +12,57 @@ use Rattle.committee.specs.Tree.{Tree, leaf, node}
 use Rattle.committee.specs.Plan.{duration, committee_of, rounds_of, plan}
 
 -- the place in two lists, one behind the other
-nth_left : {A : Type 0} (xs ys : List A) (t : ℕ) → t < length xs → slice_get (xs ++ ys) t ≡ slice_get xs t
+pub nth_left : {A : Type 0} (xs ys : List A) (t : ℕ) → t < length xs → slice_get (xs ++ ys) t ≡ slice_get xs t
 nth_left [] ys t h = absurd (omega arith)
 nth_left (x ∷ xs) ys zero h = refl
 nth_left (x ∷ xs) ys (suc t) h = nth_left xs ys t (omega arith)
 
-nth_right : {A : Type 0} (xs ys : List A) (n t : ℕ) → length xs ≡ n → slice_get (xs ++ ys) (n + t) ≡ slice_get ys t
+pub nth_right : {A : Type 0} (xs ys : List A) (n t : ℕ) → length xs ≡ n → slice_get (xs ++ ys) (n + t) ≡ slice_get ys t
 nth_right [] ys n t e = ap (slice_get ys) (omega (arith, e))
 nth_right (x ∷ xs) ys zero t e = absurd (omega (arith, e))
 nth_right (x ∷ xs) ys (suc n) t e = ap (slice_get (x ∷ (xs ++ ys))) (suc-add n t) ∙ nth_right xs ys n t (omega (arith, e))
-
--- round t of a part
-from : (at : ℕ → Stage) (n a t : ℕ) → t < n → slice_get (map at (range_with_len a n)) t ≡ Some (at (a + t))
-from at zero a t h = absurd (omega arith)
-from at (suc n) a zero h = ap (λ x. Some (at x)) (omega arith)
-from at (suc n) a (suc t) h = from at n (a + 1) t (omega arith) ∙ ap (λ x. Some (at x)) (omega arith)
 
 -- a round of a part
 abbrev pub at : Committee → Committee → Part → ℕ → Stage
 at c half part round = record { committee = c; half = half; part = part; round = round }
 
-nth_round : (n : ℕ) (c half : Committee) (part : Part) (t : ℕ) → t < n → slice_get (rounds_of n c half part) t ≡ Some (at c half part (suc t))
-nth_round n c half part t h = from (at c half part) n 1 t h ∙ ap (λ x. Some (at c half part x)) (omega arith)
-
 rounds_length : (n : ℕ) (c half : Committee) (part : Part) → length (rounds_of n c half part) ≡ n
 rounds_length n c half part = length-map-range_with_len (at c half part) 1 n
+
+nth_round : (n : ℕ) (c half : Committee) (part : Part) (t : ℕ) → t < n → slice_get (rounds_of n c half part) t ≡ Some (at c half part (suc t))
+nth_round n c half part t h =
+    slice_get_read (rounds_of n c half part) n t (at c half part (suc t)) (sym (rounds_length n c half part)) h
+    (sym (get_or-map-range_with_len (at c half part) 1 n t (suc t) (at c half part (suc t)) h (omega arith)))
+
+-- the turn of a half: a graded agreement of n rounds, the half's own rounds, and its report
+module _ (n : ℕ) (c half : Committee) (graded report : Part) (own : List Stage) where
+  abbrev pub turn : List Stage
+  turn = rounds_of n c half graded ++ (own ++ (at c half report 1 ∷ []))
+
+  -- from the half's own rounds on
+  behind : (t : ℕ) → slice_get turn (n + t) ≡ slice_get (own ++ (at c half report 1 ∷ [])) t
+  behind t = nth_right (rounds_of n c half graded) _ n t (rounds_length n c half graded)
+
+  pub turn_length : length turn ≡ n + length own + 1
+  turn_length = simp length-append (omega (arith, rounds_length n c half graded))
+
+  pub turn_graded : (t : ℕ) → t < n → slice_get turn t ≡ Some (at c half graded (suc t))
+  turn_graded t h = nth_left (rounds_of n c half graded) _ t (omega (arith, rounds_length n c half graded)) ∙ nth_round n c half graded t h
+
+  pub turn_report : (t : ℕ) → t ≡ n + length own → slice_get turn t ≡ Some (at c half report 1)
+  turn_report t e = ap (slice_get turn) (omega (arith, e)) ∙ behind (length own + 0) ∙ nth_right own _ (length own) 0 refl
+
+  pub turn_own : (t : ℕ) → t < length own → slice_get turn (n + t) ≡ slice_get own t
+  turn_own t h = behind t ∙ nth_left own _ t h
+
+  -- after the report there is as little as after the half's own rounds
+  pub turn_rest : (t : ℕ) → n ≤ t → (t ≡ n + length own → ⊥) → slice_get turn t ≡ slice_get own (t - n)
+  turn_rest t past other =
+      ⊎_elim
+      (λ within. ap (slice_get turn) (omega arith) ∙ turn_own (t - n) within)
+      (λ over.
+      slice_get_past turn t (omega (arith, turn_length)) ∙ sym (slice_get_past own (t - n) over))
+      (cases_lt (t - n) (length own))
 
 module _ (base graded : ℕ → ℕ) where
   -- a plan has as many rounds as its committee takes
@@ -59,7 +87,7 @@ module _ (base graded : ℕ → ℕ) where
   unfolding plan
   in_base w d lo s t h = let c = committee_of w d (leaf lo s) in nth_round (base s) c c Base t h
 
-  -- the six stretches of a larger committee's plan
+  -- a larger committee's plan is the turns of its two halves, and each turn has three stretches
   module _ (w d lo s : ℕ) (l r : Tree) where
     abbrev c : Committee
     c = committee_of w d (node lo s l r)
@@ -79,68 +107,54 @@ module _ (base graded : ℕ → ℕ) where
     abbrev right_plan : List Stage
     right_plan = plan base graded (2 * w + 1) (d + 1) r
 
-    first : List Stage
-    first = rounds_of (graded s) c left FirstGraded
+    abbrev first : List Stage
+    first = turn (graded s) c left FirstGraded FirstReport left_plan
 
-    second : List Stage
-    second = rounds_of (graded s) c right SecondGraded
+    abbrev second : List Stage
+    second = turn (graded s) c right SecondGraded SecondReport right_plan
 
-    first_length : length first ≡ graded s
-    unfolding first
-    first_length = rounds_length (graded s) c left FirstGraded
+    pub two_turns : whole ≡ first ++ second
+    unfolding plan
+    two_turns = simp append_assoc
 
-    second_length : length second ≡ graded s
-    unfolding second
-    second_length = rounds_length (graded s) c right SecondGraded
+    left_length : length left_plan ≡ duration base graded l
+    left_length = plan_length (2 * w) (d + 1) l
 
-    last : List Stage
-    last = at c right SecondReport 1 ∷ []
+    right_length : length right_plan ≡ duration base graded r
+    right_length = plan_length (2 * w + 1) (d + 1) r
 
-    -- what comes after the first report
-    rest : List Stage
-    rest = second ++ (right_plan ++ last)
+    first_length : length first ≡ suc (graded s + duration base graded l)
+    first_length = turn_length (graded s) c left FirstGraded FirstReport left_plan ∙ omega (arith, left_length)
 
-    parted : whole ≡ first ++ (left_plan ++ (at c left FirstReport 1 ∷ rest))
-    unfolding plan first second last rest
-    parted = refl
+    in_first : (t : ℕ) → t < suc (graded s + duration base graded l) → slice_get whole t ≡ slice_get first t
+    in_first t h = ap (λ xs. slice_get xs t) two_turns ∙ nth_left first second t (omega (arith, first_length))
+
+    in_second : (t : ℕ) → slice_get whole (suc (graded s + duration base graded l) + t) ≡ slice_get second t
+    in_second t =
+        ap (λ xs. slice_get xs (suc (graded s + duration base graded l) + t)) two_turns
+        ∙ nth_right first second (suc (graded s + duration base graded l)) t first_length
 
     pub in_first_graded : (t : ℕ) → t < graded s → slice_get whole t ≡ Some (at c left FirstGraded (suc t))
-    unfolding first
-    in_first_graded t h =
-        ap (λ xs. slice_get xs t) parted ∙ nth_left first _ t (omega (arith, first_length)) ∙ nth_round (graded s) c left FirstGraded t h
+    in_first_graded t h = in_first t (omega arith) ∙ turn_graded (graded s) c left FirstGraded FirstReport left_plan t h
 
     pub in_first_half : (t : ℕ) → t < duration base graded l → slice_get whole (graded s + t) ≡ slice_get left_plan t
     in_first_half t h =
-        ap (λ xs. slice_get xs (graded s + t)) parted ∙ nth_right first _ (graded s) t first_length
-        ∙ nth_left left_plan _ t (omega (arith, plan_length (2 * w) (d + 1) l))
-
-    -- from the first report on
-    from_report : (t : ℕ) → slice_get whole (graded s + (duration base graded l + t)) ≡ slice_get (at c left FirstReport 1 ∷ rest) t
-    from_report t =
-        ap (λ xs. slice_get xs (graded s + (duration base graded l + t))) parted ∙ nth_right first _ (graded s) (duration base graded l + t) first_length
-        ∙ nth_right left_plan _ (duration base graded l) t (plan_length (2 * w) (d + 1) l)
+        in_first (graded s + t) (omega arith) ∙ turn_own (graded s) c left FirstGraded FirstReport left_plan t (omega (arith, left_length))
 
     pub in_first_report : slice_get whole (graded s + duration base graded l) ≡ Some (at c left FirstReport 1)
-    in_first_report = ap (slice_get whole) (omega arith) ∙ from_report 0
-
-    after_report : (t : ℕ) → slice_get whole (suc (graded s + duration base graded l) + t) ≡ slice_get rest t
-    after_report t = ap (slice_get whole) (omega arith) ∙ from_report (suc t)
+    in_first_report =
+        in_first (graded s + duration base graded l) (omega arith)
+        ∙ turn_report (graded s) c left FirstGraded FirstReport left_plan (graded s + duration base graded l) (omega (arith, left_length))
 
     pub in_second_graded : (t : ℕ) → t < graded s → slice_get whole (suc (graded s + duration base graded l) + t) ≡ Some (at c right SecondGraded (suc t))
-    unfolding second rest
-    in_second_graded t h =
-        after_report t ∙ nth_left second _ t (omega (arith, second_length)) ∙ nth_round (graded s) c right SecondGraded t h
+    in_second_graded t h = in_second t ∙ turn_graded (graded s) c right SecondGraded SecondReport right_plan t h
 
     pub in_second_half : (t : ℕ) → t < duration base graded r
         → slice_get whole (suc (graded s + duration base graded l) + (graded s + t)) ≡ slice_get right_plan t
-    unfolding rest
     in_second_half t h =
-        after_report (graded s + t) ∙ nth_right second _ (graded s) t second_length
-        ∙ nth_left right_plan _ t (omega (arith, plan_length (2 * w + 1) (d + 1) r))
+        in_second (graded s + t) ∙ turn_own (graded s) c right SecondGraded SecondReport right_plan t (omega (arith, right_length))
 
     pub in_second_report : slice_get whole (suc (graded s + duration base graded l) + (graded s + duration base graded r)) ≡ Some (at c right SecondReport 1)
-    unfolding rest last
     in_second_report =
-        after_report (graded s + duration base graded r) ∙ ap (slice_get rest) (omega arith)
-        ∙ nth_right second _ (graded s) (duration base graded r + 0) second_length
-        ∙ nth_right right_plan _ (duration base graded r) 0 (plan_length (2 * w + 1) (d + 1) r)
+        in_second (graded s + duration base graded r)
+        ∙ turn_report (graded s) c right SecondGraded SecondReport right_plan (graded s + duration base graded r) (omega (arith, right_length))

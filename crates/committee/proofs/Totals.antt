@@ -1,11 +1,15 @@
 -- How many rounds and signatures a committee of so many parties takes, from what its halves take.
-use Rattle.std.proofs.Common.{◌≡◌, ℕ, suc, ◌+◌, ◌-◌, ◌*◌, ◌/◌, ◌<◌, ◌≤◌, ◌⊎◌, ap, ◌∙◌, inl, inr, ⊎_elim, arith}
-use Rattle.std.proofs.lemmas.Bool.{cases_lt}
+use Rattle.std.proofs.Common.{◌≡◌, ℕ, suc, ◌+◌, ◌-◌, ◌*◌, ◌/◌, ◌<◌, ◌≤◌, ◌⊎◌, ap, ◌∙◌, inl, inr, arith}
 use Rattle.committee.specs.declared.sizes.Sizes.{Sizes}
+use Rattle.committee.specs.declared.stages.Committee.{Committee}
 use Rattle.committee.specs.Tree.{first_half, second_half, committees, bound}
 use Rattle.committee.specs.Plan.{duration}
 use Rattle.committee.specs.Numbers.{base_rounds, graded_rounds, total_of}
 use Rattle.committee.proofs.Trees.{lasts_small, lasts_large, lasts_alike, bound_large, bound_alike}
+
+-- what a plan of the same numbers and the same committee takes
+pub alike : {X : Type 0} (f : Sizes → Committee → X) {z z' : Sizes} {c c' : Committee} → (z ≡ z') × (c ≡ c') → f z c ≡ f z' c'
+alike f {z' = z'} {c = c} same = ap (λ z. f z c) same.0 ∙ ap (f z') same.1
 
 module _ (z : Sizes) where
   pub lasts : (lo s : ℕ) → duration (base_rounds z) (graded_rounds z) (committees z.most lo s) ≡ total_of z s
@@ -35,7 +39,7 @@ squares a b (inl e) = rw e (omega arith)
 squares a b (inr e) = rw e (omega arith)
 
 halves_near : (s : ℕ) → (first_half s ≡ second_half s) ⊎ (first_half s ≡ suc (second_half s))
-halves_near s = ⊎_elim (λ less. inr (omega arith)) (λ same. inl (omega arith)) (cases_lt (s / 2) (s - s / 2))
+halves_near s = grind arith
 
 -- the bounds of two halves leave room for 11s²
 pub bound_few : (s x y : ℕ) → x + 11 ≤ 22 * (first_half s * first_half s) → y + 11 ≤ 22 * (second_half s * second_half s)

@@ -1,3 +1,4 @@
 pub mod Tree
 pub mod Plan
 pub mod Numbers
+pub mod Words

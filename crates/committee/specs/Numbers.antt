@@ -1,11 +1,12 @@
 -- What the numbers of a plan say.
-use Rattle.std.specs.Prelude.{ℕ, ◌+◌, ◌-◌, ◌*◌, ◌^◌, ◌<◌, ◌≤◌, List, slice_index}
+use Rattle.std.specs.Prelude.{ℕ, ◌+◌, ◌-◌, ◌*◌, ◌^◌, ◌<◌, ◌≤◌, List, [], ◌∷◌, ◌++◌, slice_index}
 use Rattle.message.specs.Members.{most_parties}
 use Rattle.committee.specs.declared.sizes.Sizes.{Sizes}
 use Rattle.committee.specs.declared.stages.Committee.{Committee}
+use Rattle.committee.specs.declared.stages.Part.{Part}
 use Rattle.committee.specs.declared.stages.Stage.{Stage}
 use Rattle.committee.specs.Tree.{first_half, second_half, committees}
-use Rattle.committee.specs.Plan.{duration, plan}
+use Rattle.committee.specs.Plan.{duration, rounds_of, plan}
 
 -- the rounds of the base agreement among k seats
 abbrev pub base_rounds : Sizes → ℕ → ℕ
@@ -22,6 +23,11 @@ total_of z s = duration (base_rounds z) (graded_rounds z) (committees z.most 0 s
 -- the plan of a committee
 abbrev pub plan_of : Sizes → Committee → List Stage
 plan_of z c = plan (base_rounds z) (graded_rounds z) c.number c.depth (committees z.most c.first c.size)
+
+-- the turn of a half in its committee's plan: a graded agreement, the half's own rounds, and its report
+abbrev pub turn_of : Sizes → Committee → Committee → Part → Part → List Stage
+turn_of z c half graded report =
+    rounds_of z.graded c half graded ++ (plan_of z half ++ (record { committee = c; half = half; part = report; round = 1 } ∷ []))
 
 -- all parties, as a committee
 abbrev pub everybody : ℕ → Committee

@@ -1,6 +1,6 @@
 // Committees on plain numbers: how many rounds one takes, which stage a round is, and how many signatures it may send.
 #![tactic(auto)]
 
-pub mod finding;
+pub mod plan;
 pub mod sizes;
 pub mod stages;

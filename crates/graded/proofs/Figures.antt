@@ -1,7 +1,7 @@
 -- The steps are those of Figure 2, whatever arrives.
-use Rattle.std.proofs.Common.{◌≡◌, ℕ, ◌^◌, ◌<◌, ◌≤◌, true, false, ◌⊎◌, List, length, is_some, Some, None, Option, unwrap_or, sym, refl, ap, ◌∙◌, inl, inr, arith}
+use Rattle.std.proofs.Common.{◌≡◌, ℕ, ◌^◌, ◌<◌, ◌≤◌, true, ◌⊎◌, List, length, is_some, Some, None, Option, unwrap_or, sym, refl, ap, ◌∙◌, inl, inr, arith}
 use Rattle.std.proofs.lemmas.List.{get_or_past}
-use Rattle.std.proofs.lemmas.Bool.{cases_lt, cases_order, both_ways, lt-ltb}
+use Rattle.std.proofs.lemmas.Bool.{cases_lt, cases_order, lt-ltb}
 use Rattle.message.specs.declared.Message.{Message}
 use Rattle.message.specs.Members.{member, Holds, quorum}
 use Rattle.message.specs.Tally.{before, slot_day, names, entry, tally, reaching, LowestReaching}
@@ -12,7 +12,7 @@ use Rattle.graded.specs.Steps.{word, who_named, certificate, unless_disputed, sa
 use Rattle.graded.specs.Figure.{SignedAlone, Certified, FollowsFigure2}
 use Rattle.message.proofs.Tallying.{reaching_means, reaching_has, reaching_only}
 use Rattle.graded.proofs.Reading.{signed_is, is_signed, certificate_day}
-use Rattle.graded.proofs.Grades.{undisputed_is, is_undisputed}
+use Rattle.graded.proofs.Grades.{undisputed_is, is_undisputed, some_is}
 
 -- a certificate is shown exactly of what a quorum named, by those who named it
 who_holds : (named : List (Option ℕ)) (v : ℕ) → Holds (who_named named v) (λ i. names v (entry named i))
@@ -68,11 +68,7 @@ module _ (k own : ℕ) (named : List (Option ℕ)) (few : length named ≤ k) wh
       is_signed (λ _. 2 ^ own) (slot_day (certificate k named)) m (certificate_day k named ∙ reaching_only named k few m.day v.0) v.1
 
   sure : is_some (reaching (quorum k) named) ≡ true → (v : ℕ) × (quorum k ≤ tally named v)
-  sure e = go (reaching (quorum k) named) refl e
-    where
-      go : (o : Option ℕ) → reaching (quorum k) named ≡ o → is_some o ≡ true → (v : ℕ) × (quorum k ≤ tally named v)
-      go None is e = absurd (both_ways false refl e)
-      go (Some v) is e = (v, reaching_has (quorum k) named v is)
+  sure e = let it = some_is (reaching (quorum k) named) e in (it.0, reaching_has (quorum k) named it.0 it.1)
 
   unsure : (v : ℕ) × (quorum k ≤ tally named v) → is_some (reaching (quorum k) named) ≡ true
   unsure v = ap is_some (reaching_only named k few v.0 v.1)

@@ -1,39 +1,29 @@
 -- Why Figure 2 grades, said of what seats hear from one another, whoever has them hear it.
-use Rattle.std.proofs.Common.{◌≡◌, ℕ, ◌*◌, ◌<◌, ◌≤◌, Bool, true, false, not, eqb, ◌⊎◌, List, length, is_some, Some, None, Option, unwrap_or, sym, refl, ap, ◌∙◌, inl, inr, arith}
-use Rattle.std.proofs.lemmas.List.{get_or_past}
-use Rattle.std.proofs.lemmas.Bool.{cases_Bool, cases_lt, both_ways, eq-eqb, eqb-true, not-true, not-false, cond-true}
+use Rattle.std.proofs.Common.{◌≡◌, ℕ, ◌*◌, ◌<◌, ◌≤◌, Bool, true, false, not, eqb, List, length, is_some, Some, None, Option, unwrap_or, sym, refl, ap, ◌∙◌, arith}
+use Rattle.std.proofs.lemmas.Option.{cond_some}
+use Rattle.std.proofs.lemmas.Bool.{eq-eqb, eqb-true, not-true, not-false, cond-true}
 use Rattle.message.specs.Count.{count}
 use Rattle.message.specs.Members.{quorum}
 use Rattle.message.specs.Tally.{names, differs, entry, others, reaching}
 use Rattle.message.proofs.Counting.{count_more, count_mono, count_not, count_zero, count_none}
 use Rattle.message.proofs.Tallying.{names_is, is_names, tally_upto, reaching_has, reaching_only, reaching_one}
 use Rattle.graded.specs.Steps.{unless_disputed}
+use Rattle.graded.proofs.Reading.{entry_within}
 
 -- a day that nobody disputes
 pub undisputed_is : (named : List (Option ℕ)) (o : Option ℕ) (v : ℕ) → unless_disputed named o ≡ Some v
     → (o ≡ Some v) × ((j u : ℕ) → entry named j ≡ Some u → u ≡ v)
 unfolding others
-undisputed_is named None v e = absurd (let z : ◌≡◌ {A = ℕ} 0 1 = cc in omega arith)
-undisputed_is named (Some w) v e = go (cases_Bool (eqb (others named w) 0))
+undisputed_is named None v e = cc
+undisputed_is named (Some w) v e = (ap Some is.1, like)
   where
-    go : (eqb (others named w) 0 ≡ true) ⊎ (eqb (others named w) 0 ≡ false)
-        → (Some w ≡ Some v) × ((j u : ℕ) → entry named j ≡ Some u → u ≡ v)
-    go (inl t) = (same, like)
-      where
-        same : Some w ≡ Some v
-        same = cc
+    is : (eqb (others named w) 0 ≡ true) × (w ≡ v)
+    is = cond_some (eqb (others named w) 0) w v e
 
-        like : (j u : ℕ) → entry named j ≡ Some u → u ≡ v
-        like j u at = side (cases_lt j (length named))
-          where
-            side : (j < length named) ⊎ (length named ≤ j) → u ≡ v
-            side (inl h) =
-                let none = count_zero (λ i. differs w (entry named i)) (length named) j (eqb-true (others named w) 0 t) h in
-                let near : not (eqb u w) ≡ false = sym (ap (differs w) at) ∙ none in
-                let is : u ≡ w = eqb-true u w (not-false (eqb u w) near) in
-                cc
-            side (inr h) = let none = get_or_past named j None h in absurd (let z : ◌≡◌ {A = ℕ} 0 1 = cc in omega arith)
-    go (inr t) = absurd (let z : ◌≡◌ {A = ℕ} 0 1 = cc in omega arith)
+    like : (j u : ℕ) → entry named j ≡ Some u → u ≡ v
+    like j u at =
+        let none = count_zero (λ i. differs w (entry named i)) (length named) j (eqb-true (others named w) 0 is.0) (entry_within named j u at) in
+        eqb-true u w (not-false (eqb u w) (sym (ap (differs w) at) ∙ none)) ∙ is.1
 
 pub is_undisputed : (named : List (Option ℕ)) (o : Option ℕ) (v : ℕ) → o ≡ Some v → ((j u : ℕ) → entry named j ≡ Some u → u ≡ v)
     → unless_disputed named o ≡ Some v
@@ -58,8 +48,8 @@ disputed_is_none named o v e other = go (unless_disputed named o) refl
         let same : w ≡ v = cc in
         absurd (other.3 (fine.1 other.0 other.1 other.2 ∙ same))
 
-some_is : (o : Option ℕ) → is_some o ≡ true → (u : ℕ) × (o ≡ Some u)
-some_is None e = absurd (both_ways false refl e)
+pub some_is : (o : Option ℕ) → is_some o ≡ true → (u : ℕ) × (o ≡ Some u)
+some_is None e = cc
 some_is (Some u) e = (u, refl)
 
 -- F are the seats that are corrupt in the end; each seat has an input and hears five lists of days, in which place j is seat j's.
@@ -108,7 +98,7 @@ one_of_them k F few named whole v e =
     (s.0, s.1, names_is v (entry named s.0) s.2, s.3)
 
 -- what all seats outside a minority name, a quorum names
-pub all_of_them : (k : ℕ) (F : ℕ → Bool) → 2 * count F k < k → (named : List (Option ℕ)) → length named ≡ k
+all_of_them : (k : ℕ) (F : ℕ → Bool) → 2 * count F k < k → (named : List (Option ℕ)) → length named ≡ k
     → (v : ℕ) → ((s : ℕ) → s < k → F s ≡ false → entry named s ≡ Some v) → reaching (quorum k) named ≡ Some v
 all_of_them k F few named whole v all =
     reaching_only named k (omega arith) v
@@ -146,13 +136,8 @@ module _ (k : ℕ) (F : ℕ → Bool) (few : 2 * count F k < k) (input : ℕ →
   everybody_takes : (s v : ℕ) → s < k → F s ≡ false → won s ≡ Some v → (i : ℕ) → i < k → taken k F input echoes shown votes proofs again i ≡ v
   everybody_takes s v hs es e i hi =
       let mine = hearing.proof_of i s hi hs es ∙ e in
-      ap (λ o. unwrap_or o (input i)) (reaching_one (proofs i) s v mine (λ j u at. on_one j u at (cases_lt j k)))
-    where
-      on_one : (j u : ℕ) → entry (proofs i) j ≡ Some u → (j < k) ⊎ (k ≤ j) → u ≡ v
-      on_one j u at (inl hj) = one_certificate i s i j v u hi hs hi hj (hearing.proof_of i s hi hs es ∙ e) at
-      on_one j u at (inr out) =
-          let none = get_or_past (proofs i) j None (omega (arith, hearing.proofs_whole i hi)) in
-          absurd (let z : ◌≡◌ {A = ℕ} 0 1 = cc in omega arith)
+      ap (λ o. unwrap_or o (input i))
+      (reaching_one (proofs i) s v mine (λ j u at. one_certificate i s i j v u hi hs hi (omega (arith, hearing.proofs_whole i hi, entry_within (proofs i) j u at)) mine at))
 
   -- grade 1 fixes every seat's day
   pub consistent : (i j : ℕ) → i < k → j < k → sure k F input echoes shown votes proofs again i ≡ true
@@ -168,13 +153,12 @@ module _ (k : ℕ) (F : ℕ → Bool) (few : 2 * count F k < k) (input : ℕ →
     all_echoed i hi = all_of_them k F few (echoes i) (hearing.echoes_whole i hi) v (λ s hs e. hearing.echo_of i s hi hs e ∙ ap Some (common s hs e))
 
     all_voted : (i : ℕ) → i < k → vote i ≡ Some v
-    all_voted i hi = is_undisputed (shown i) _ v (all_echoed i hi) (λ j u at. only j u at (cases_lt j k))
+    all_voted i hi = is_undisputed (shown i) _ v (all_echoed i hi) only
       where
-        only : (j u : ℕ) → entry (shown i) j ≡ Some u → (j < k) ⊎ (k ≤ j) → u ≡ v
-        only j u at (inl hj) = let s = hearing.behind_echoes i j u hi hj at in sym s.3 ∙ common s.0 s.1 s.2
-        only j u at (inr out) =
-            let none = get_or_past (shown i) j None (omega (arith, hearing.shown_whole i hi)) in
-            absurd (let z : ◌≡◌ {A = ℕ} 0 1 = cc in omega arith)
+        only : (j u : ℕ) → entry (shown i) j ≡ Some u → u ≡ v
+        only j u at =
+            let s = hearing.behind_echoes i j u hi (omega (arith, hearing.shown_whole i hi, entry_within (shown i) j u at)) at in
+            sym s.3 ∙ common s.0 s.1 s.2
 
     all_elected : (i : ℕ) → i < k → won i ≡ Some v
     all_elected i hi = all_of_them k F few (votes i) (hearing.votes_whole i hi) v (λ s hs e. hearing.vote_of i s hi hs e ∙ all_voted s hs)

@@ -15,15 +15,11 @@ use Rattle.protocol.proofs.Arriving.{was_honest}
 use Rattle.graded.specs.declared.seats.Seat.{Seat}
 use Rattle.graded.specs.Roles.{kind, form, certificate_form}
 use Rattle.graded.specs.Steps.{word, certificate, unless_disputed, four_rounds}
-use Rattle.graded.proofs.Reading.{signed_day, signed_is, certificate_day, formed_certificate}
+use Rattle.graded.proofs.Reading.{signed_day, signed_is, certificate_day, formed_certificate, certificate_no_word}
 use Rattle.graded.proofs.Grades.{Hearing, voted, outside, one_of_them, consistent, valid}
 
 abbrev pub P : Protocol Seat
 P = four_rounds.protocol
-
--- a certificate is no word
-no_word : (k signers : ℕ) → certificate_form k signers ≡ Some Listed → ⊥
-no_word k signers e = let is = (formed_certificate k signers Listed e).2 in let z : ◌≡◌ {A = ℕ} 0 1 = cc in omega arith
 
 module _ (k : ℕ) (tr : Trace) where
   -- the days that arrive at seat i
@@ -50,23 +46,23 @@ module _ (k : ℕ) (tr : Trace) where
   vote = voted k F tr.input echoes shown votes proofs again
 
   -- what a seat says in each round
-  pub says_1 : (j : ℕ) → says P k tr 0 0 j ≡ word j (Some (tr.input j))
+  says_1 : (j : ℕ) → says P k tr 0 0 j ≡ word j (Some (tr.input j))
   unfolding state
   says_1 j = refl
 
-  pub says_2 : (j : ℕ) → says P k tr 1 0 j ≡ certificate k (echoes j)
+  says_2 : (j : ℕ) → says P k tr 1 0 j ≡ certificate k (echoes j)
   unfolding state
   says_2 j = refl
 
-  pub says_3 : (j : ℕ) → says P k tr 2 0 j ≡ word j (unless_disputed (shown j) (slot_day (certificate k (echoes j))))
+  says_3 : (j : ℕ) → says P k tr 2 0 j ≡ word j (unless_disputed (shown j) (slot_day (certificate k (echoes j))))
   unfolding state
   says_3 j = refl
 
-  pub says_4 : (j : ℕ) → says P k tr 3 0 j ≡ certificate k (votes j)
+  says_4 : (j : ℕ) → says P k tr 3 0 j ≡ certificate k (votes j)
   unfolding state
   says_4 j = refl
 
-  pub says_5 : (j : ℕ) → says P k tr 3 1 j ≡ word j (slot_day (certificate k (votes j)))
+  says_5 : (j : ℕ) → says P k tr 3 1 j ≡ word j (slot_day (certificate k (votes j)))
   unfolding state
   says_5 j = refl
 
@@ -95,9 +91,9 @@ module _ (k : ℕ) (tr : Trace) where
       go : (before topic : ℕ) (m : Message) → before < 2 → says P k tr before topic s ≡ Some m → form_of P k tr before topic s m ≡ Some Listed
           → kind (suc before) topic ≡ 0 → m.day ≡ v → tr.input s ≡ v
       go zero zero m h was listed about on = let mine = (signed_is (λ _. 2 ^ s) (Some (tr.input s)) m (sym (says_1 s) ∙ was)).0 in cc
-      go zero (suc t) m h was listed about on = absurd (let z : ◌≡◌ {A = ℕ} 0 1 = cc in omega arith)
-      go (suc zero) zero m h was listed about on = absurd (no_word k m.signers.mask listed)
-      go (suc zero) (suc t) m h was listed about on = absurd (let z : ◌≡◌ {A = ℕ} 0 1 = cc in omega arith)
+      go zero (suc t) m h was listed about on = cc
+      go (suc zero) zero m h was listed about on = absurd (certificate_no_word k m.signers.mask listed)
+      go (suc zero) (suc t) m h was listed about on = cc
       go (suc (suc b)) t m h was listed about on = absurd (omega arith)
 
   said_vote : (v s : ℕ) → Said P k tr 4 1 v s → vote s ≡ Some v
@@ -111,7 +107,7 @@ module _ (k : ℕ) (tr : Trace) where
       go (suc zero) (suc t) m h was listed about on = absurd (omega arith)
       go (suc (suc zero)) zero m h was listed about on = sym (vote_said s) ∙ ap slot_day was ∙ ap Some on
       go (suc (suc zero)) (suc t) m h was listed about on = absurd (omega arith)
-      go (suc (suc (suc zero))) zero m h was listed about on = absurd (no_word k m.signers.mask listed)
+      go (suc (suc (suc zero))) zero m h was listed about on = absurd (certificate_no_word k m.signers.mask listed)
       go (suc (suc (suc zero))) (suc zero) m h was listed about on = absurd (omega arith)
       go (suc (suc (suc zero))) (suc (suc t)) m h was listed about on = absurd (omega arith)
       go (suc (suc (suc (suc b)))) t m h was listed about on = absurd (omega arith)

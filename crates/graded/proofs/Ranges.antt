@@ -1,7 +1,6 @@
 -- In a play of the four rounds, what honest seats keep, say and leave with is on days.
 use Rattle.std.proofs.Common.{◌≡◌, ℕ, zero, suc, ◌<◌, ◌≤◌, true, false, ◌⊎◌, List, Some, None, Option, unwrap_or, sym, refl, ap, ◌∙◌, subst, inl, inr, arith}
-use Rattle.std.proofs.lemmas.List.{get_or_past}
-use Rattle.std.proofs.lemmas.Bool.{cases_Bool, cases_lt}
+use Rattle.std.proofs.lemmas.Bool.{cases_Bool}
 use Rattle.message.specs.declared.Message.{Message}
 use Rattle.message.specs.Members.{quorum}
 use Rattle.message.specs.Tally.{Day, slot_day, entry, reaching}
@@ -17,7 +16,7 @@ use Rattle.graded.specs.declared.table.Role.TheVariants.{Echo, EchoCertificate, 
 use Rattle.graded.specs.Roles.{role_at}
 use Rattle.graded.specs.Steps.{signed_by, certificate, unless_disputed, says_at, hear, four_rounds}
 use Rattle.message.proofs.Tallying.{reaching_named}
-use Rattle.graded.proofs.Reading.{certificate_day}
+use Rattle.graded.proofs.Reading.{entry_within, signed_day, certificate_day}
 use Rattle.graded.proofs.Grades.{undisputed_is}
 use Rattle.graded.proofs.Hearing.{P}
 
@@ -30,7 +29,7 @@ abbrev IfDay : Option ℕ → Type 0
 IfDay o = (u : ℕ) → o ≡ Some u → Day u
 
 no_day : IfDay None
-no_day u e = absurd (let z : ◌≡◌ {A = ℕ} 0 1 = cc in omega arith)
+no_day u e = cc
 
 just_day : (v : ℕ) → Day v → IfDay (Some v)
 just_day v h u e = let same : v ≡ u = cc in subst Day same h
@@ -86,8 +85,7 @@ hears_days s (suc (suc (suc (suc (suc r))))) x h all = h
 
 -- what it keeps on days it says on days
 signed_on : (who : ℕ → ℕ) (o : Option ℕ) → IfDay o → IfDay (slot_day (signed_by who o))
-signed_on who None h = no_day
-signed_on who (Some v) h = h
+signed_on who o h u e = h u (sym (signed_day who o) ∙ e)
 
 says_days : (s : Seat) (o : Option Role) → OnDays s → IfDay (slot_day (says_at s o))
 says_days s None h = no_day
@@ -124,7 +122,8 @@ module _ (k : ℕ) (tr : Trace) where
     -- what arrives is on days, if what honest seats keep is
     arrives : (r : ℕ) → r < 4 → ((j : ℕ) → j < k → tr.corrupt r j ≡ false → OnDays (state P k tr r j))
         → (t i : ℕ) → t < 2 → i < k → NamedDays (days (under k t (tr.inbox (suc r) i)))
-    arrives r hr kept t i ht hi j u e = side (cases_lt j k)
+    arrives r hr kept t i ht hi j u e =
+        from (omega (arith, entry_within (days (under k t (tr.inbox (suc r) i))) j u e, few_entries k t (tr.inbox (suc r) i))) (cases_Bool (tr.corrupt (suc r) j))
       where
         from : j < k → (tr.corrupt (suc r) j ≡ true) ⊎ (tr.corrupt (suc r) j ≡ false) → Day u
         from hj (inl bad) =
@@ -134,12 +133,6 @@ module _ (k : ℕ) (tr : Trace) where
         from hj (inr good) =
             let said = sym (entry_of k t (tr.inbox (suc r) i) j hj ∙ ap slot_day (play.from_honest r t j i hr ht hj hi good)) ∙ e in
             says_days (state P k tr r j) (role_at (suc r) t) (kept j hj (was_honest P k tr play r j hr hj good)) u said
-
-        side : (j < k) ⊎ (k ≤ j) → Day u
-        side (inl hj) = from hj (cases_Bool (tr.corrupt (suc r) j))
-        side (inr out) =
-            let none = get_or_past (days (under k t (tr.inbox (suc r) i))) j None (omega (arith, few_entries k t (tr.inbox (suc r) i))) in
-            absurd (let z : ◌≡◌ {A = ℕ} 0 1 = cc in omega arith)
 
     on_days : (r : ℕ) → r ≤ 4 → (i : ℕ) → i < k → tr.corrupt r i ≡ false → OnDays (state P k tr r i)
     on_days zero hr i hi good = begins i (play.days i hi good)

@@ -32,7 +32,7 @@ well_formed k = record {
     of_word i signers f hi e = rw (formed_word i signers f e).0 (pow_below i k hi)
 
     seats : (o : Option Role) (i signers : ℕ) (f : Form) → i < k → form_at o k i signers ≡ Some f → signers < 2 ^ k
-    seats None i signers f hi e = absurd (let z : ◌≡◌ {A = ℕ} 0 1 = cc in omega arith)
+    seats None i signers f hi e = cc
     seats (Some Echo) i signers f hi e = of_word i signers f hi e
     seats (Some EchoCertificate) i signers f hi e = (formed_certificate k signers f e).0
     seats (Some Vote) i signers f hi e = of_word i signers f hi e
@@ -40,10 +40,10 @@ well_formed k = record {
     seats (Some SecondVote) i signers f hi e = of_word i signers f hi e
 
     no_word : (i signers : ℕ) → word_form i signers ≡ Some Certificate → ⊥
-    no_word i signers e = let is = (formed_word i signers Certificate e).1 in let z : ◌≡◌ {A = ℕ} 0 1 = cc in omega arith
+    no_word i signers e = let is = (formed_word i signers Certificate e).1 in cc
 
     enough : (o : Option Role) (i signers : ℕ) → form_at o k i signers ≡ Some Certificate → quorum k ≤ size k signers
-    enough None i signers e = absurd (let z : ◌≡◌ {A = ℕ} 0 1 = cc in omega arith)
+    enough None i signers e = cc
     enough (Some Echo) i signers e = absurd (no_word i signers e)
     enough (Some EchoCertificate) i signers e = (formed_certificate k signers Certificate e).1
     enough (Some Vote) i signers e = absurd (no_word i signers e)
@@ -68,22 +68,22 @@ module _ (k : ℕ) (tr : Trace) where
   spoken : (r t i : ℕ) (m : Message) → says P k tr r t i ≡ Some m → Word r t i m ⊎ Bundle k tr r t i m
   unfolding state
   spoken zero zero i m e = inl (record { a_word = λ _ _. refl; alone = (signed_is (λ _. 2 ^ i) (Some (tr.input i)) m e).1 })
-  spoken zero (suc t) i m e = absurd (let z : ◌≡◌ {A = ℕ} 0 1 = cc in omega arith)
+  spoken zero (suc t) i m e = cc
   spoken (suc zero) zero i m e =
       inr (record { a_certificate = λ _. refl; before = 0; in_time = omega arith; of_words = λ _ _. refl; of_kind = refl; made = e })
-  spoken (suc zero) (suc t) i m e = absurd (let z : ◌≡◌ {A = ℕ} 0 1 = cc in omega arith)
+  spoken (suc zero) (suc t) i m e = cc
   spoken (suc (suc zero)) zero i m e =
       inl (record {
         a_word = λ _ _. refl;
         alone = (signed_is (λ _. 2 ^ i) (unless_disputed (days (under k 0 (tr.inbox 2 i))) (slot_day (certificate k (days (under k 0 (tr.inbox 1 i)))))) m e).1;
       })
-  spoken (suc (suc zero)) (suc t) i m e = absurd (let z : ◌≡◌ {A = ℕ} 0 1 = cc in omega arith)
+  spoken (suc (suc zero)) (suc t) i m e = cc
   spoken (suc (suc (suc zero))) zero i m e =
       inr (record { a_certificate = λ _. refl; before = 2; in_time = omega arith; of_words = λ _ _. refl; of_kind = refl; made = e })
   spoken (suc (suc (suc zero))) (suc zero) i m e =
       inl (record { a_word = λ _ _. refl; alone = (signed_is (λ _. 2 ^ i) (slot_day (certificate k (days (under k 0 (tr.inbox 3 i))))) m e).1 })
-  spoken (suc (suc (suc zero))) (suc (suc t)) i m e = absurd (let z : ◌≡◌ {A = ℕ} 0 1 = cc in omega arith)
-  spoken (suc (suc (suc (suc r)))) t i m e = absurd (let z : ◌≡◌ {A = ℕ} 0 1 = cc in omega arith)
+  spoken (suc (suc (suc zero))) (suc (suc t)) i m e = cc
+  spoken (suc (suc (suc (suc r)))) t i m e = cc
 
   word_is_listed : (r t i : ℕ) (m : Message) → Word r t i m → form_of P k tr r t i m ≡ Some Listed
   word_is_listed r t i m w = w.a_word k m.signers.mask ∙ ap (word_form i) w.alone ∙ word_formed i
@@ -136,13 +136,13 @@ module _ (k : ℕ) (tr : Trace) where
       where
         go : Word r t i m ⊎ Bundle k tr r t i m → Word r t i m
         go (inl w) = w
-        go (inr b) = let f = bundle_is_certificate r t i m s.a_round s.a_seat b in absurd (let z : ◌≡◌ {A = ℕ} 0 1 = cc in omega arith)
+        go (inr b) = let f = bundle_is_certificate r t i m s.a_round s.a_seat b in cc
 
     pub certificate_is_bundle : (r t i : ℕ) (m : Message) → Sends P k tr r t i m → form_of P k tr r t i m ≡ Some Certificate → Bundle k tr r t i m
     certificate_is_bundle r t i m s is = go (spoken r t i m s.says_it)
       where
         go : Word r t i m ⊎ Bundle k tr r t i m → Bundle k tr r t i m
-        go (inl w) = let f = word_is_listed r t i m w in absurd (let z : ◌≡◌ {A = ℕ} 0 1 = cc in omega arith)
+        go (inl w) = let f = word_is_listed r t i m w in cc
         go (inr b) = b
 
     -- what arrives where words stand is signed by its sender

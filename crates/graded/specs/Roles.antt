@@ -1,8 +1,10 @@
 -- The five roles that messages play: where each stands, what it is about, and what form it has.
-use Rattle.std.specs.Prelude.{ℕ, zero, suc, ◌^◌, cond, ◌&&◌, Some, None, Option, ◌==◌, nat_le, nat_lt}
+use Rattle.std.specs.Prelude.{ℕ, zero, suc, ◌^◌, cond, ◌&&◌, List, Some, None, Option, ◌==◌, nat_le, nat_lt, codes}
 use Rattle.message.specs.Members.{size, quorum}
 use Rattle.protocol.specs.declared.Form.{Form}
 use Rattle.protocol.specs.declared.Form.TheVariants.{Listed, Certificate}
+use Rattle.graded.specs.declared.table.Kind.{Kind}
+use Rattle.graded.specs.declared.table.Kind.TheVariants.{Echo as OfEchoes, Vote as OfVotes, SecondVote as OfSecondVotes}
 use Rattle.graded.specs.declared.table.Role.{Role}
 use Rattle.graded.specs.declared.table.Role.TheVariants.{Echo, EchoCertificate, Vote, VoteCertificate, SecondVote}
 
@@ -41,6 +43,12 @@ about Vote = 1
 about VoteCertificate = 1
 about SecondVote = 2
 
+-- the number of a kind
+abbrev pub number_of : Kind → ℕ
+number_of OfEchoes = 0
+number_of OfVotes = 1
+number_of OfSecondVotes = 2
+
 abbrev pub about_at : Option Role → ℕ
 about_at None = 0
 about_at (Some x) = about x
@@ -70,3 +78,11 @@ form_at (Some x) k i signers = role_form x k i signers
 
 abbrev pub form : ℕ → ℕ → ℕ → ℕ → ℕ → Option Form
 form k r t i signers = form_at (role_at r t) k i signers
+
+-- what a message in a role is called
+abbrev pub name_of : Role → List ℕ
+name_of Echo = codes "echo"
+name_of EchoCertificate = codes "certificate of echoes for"
+name_of Vote = codes "vote for"
+name_of VoteCertificate = codes "certificate of votes for"
+name_of SecondVote = codes "second vote for"

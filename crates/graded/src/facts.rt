@@ -3,36 +3,26 @@ ghost use Rattle.graded.specs.Facts.{GradesBelowHalf, FormsAreSigned, KeepsDisci
 ghost use Rattle.graded.specs.Figure.{FollowsFigure2};
 
 // What a seat sends, and what it leaves with, is fixed by what it heard, as Figure 2 prescribes.
-pub fn follows_figure_2() -> u8
+pub fn follows_figure_2()
     ensures { FollowsFigure2 }
-{
-    0
-}
+{}
 
 // With fewer than half of the seats corrupt at the end, grade 1 fixes the day, and a common input comes out at grade 1.
-pub fn grades_below_half() -> u8
+pub fn grades_below_half()
     ensures { GradesBelowHalf }
-{
-    0
-}
+{}
 
 // What has a form is signed by seats, and a certificate by a quorum of them.
-pub fn forms_are_signed() -> u8
+pub fn forms_are_signed()
     ensures { FormsAreSigned }
-{
-    0
-}
+{}
 
 // Honest seats sign and pass on only what they may, and leave with days.
-pub fn keeps_discipline() -> u8
+pub fn keeps_discipline()
     ensures { KeepsDiscipline }
-{
-    0
-}
+{}
 
 // Honest seats send at most 5k² signatures, however many are corrupt.
-pub fn costs_at_most() -> u8
+pub fn costs_at_most()
     ensures { CostsAtMost }
-{
-    0
-}
+{}

@@ -2,12 +2,13 @@
 ghost use Rattle.std.specs.Prelude.{◌≡◌, ◌<◌, ◌≤◌, length};
 ghost use Rattle.message.specs.Members.{most_parties};
 ghost use Rattle.protocol.specs.Inboxes.{days};
-ghost use Rattle.graded.specs.Steps.{word as own_word, certificate as certificate_of, unless_disputed, start as at_first, says as said_as, send as sent, hear_echoes, hear_echo_certificates, hear_votes, hear_last, hear as heard, outcome as leaves_with};
+ghost use Rattle.graded.specs.Steps.{word as own_word, certificate as certificate_of, unless_disputed, start as at_first, says as said_as, send as sent, hear_last, hear as heard, outcome as leaves_with};
 
 use crate::table::Role;
 use message::entries::{NamesDay, disputed, naming, reaching};
 use message::sets::quorum;
 use message::{Day, Message, Signers};
+use protocol::Spot;
 use protocol::slots::under;
 
 // What one seat keeps from round to round.
@@ -57,15 +58,12 @@ impl Seat {
         }
     }
 
-    // What it says to all seats in a round under a topic, if anything.
-    pub fn send(&self, round: u32, topic: u32) -> Option<Message>
+    // What it says to all seats at a spot, if anything.
+    pub fn send(&self, spot: Spot) -> Option<Message>
         requires { self.now.own < most_parties }
-        ensures { result ≡ sent self.now round topic }
+        ensures { result ≡ sent self.now spot.round spot.topic }
     {
-        match Role::at(round, topic) {
-            Some(role) => self.says(role),
-            None => None,
-        }
+        Role::at(spot).and_then(|role| self.says(role))
     }
 
     // What it keeps after a round in which this arrived: what seat i said under topic t is expected at t * seats + i. Whoever calls this
@@ -77,9 +75,18 @@ impl Seat {
     {
         let first = under(inbox, self.seats, 0);
         match round {
-            1 => self.hear_echoes(first),
-            2 => self.hear_echo_certificates(first),
-            3 => self.hear_votes(first),
+            1 => Seat {
+                echoes: certificate(self.seats, first),
+                ..self
+            },
+            2 => Seat {
+                vote: undisputed(first, self.echoes.day()),
+                ..self
+            },
+            3 => Seat {
+                votes: certificate(self.seats, first),
+                ..self
+            },
             4 => self.hear_last(first, under(inbox, self.seats, 1)),
             _ => self,
         }
@@ -92,72 +99,42 @@ impl Seat {
         (self.day, self.grade)
     }
 
-    fn hear_echoes(mut self, echoes: &[Option<Message>]) -> Seat
-        requires { length echoes.now ≤ most_parties }
-        ensures { result ≡ hear_echoes self echoes.now }
-    {
-        self.echoes = certificate(self.seats, echoes);
-        self
-    }
-
-    fn hear_echo_certificates(mut self, certificates: &[Option<Message>]) -> Seat
-        ensures { result ≡ hear_echo_certificates self certificates.now }
-    {
-        self.vote = undisputed(certificates, self.echoes.day());
-        self
-    }
-
-    fn hear_votes(mut self, votes: &[Option<Message>]) -> Seat
-        requires { length votes.now ≤ most_parties }
-        ensures { result ≡ hear_votes self votes.now }
-    {
-        self.votes = certificate(self.seats, votes);
-        self
-    }
-
-    fn hear_last(mut self, certificates: &[Option<Message>], seconds: &[Option<Message>]) -> Seat
+    fn hear_last(self, certificates: &[Option<Message>], seconds: &[Option<Message>]) -> Seat
         ensures { result ≡ hear_last self certificates.now seconds.now }
     {
-        self.day = reaching(certificates, 1).unwrap_or(self.day);
-        self.grade = reaching(seconds, quorum(self.seats) as usize).is_some();
-        self
+        Seat {
+            day: reaching(certificates, 1).unwrap_or(self.day),
+            grade: reaching(seconds, quorum(self.seats) as usize).is_some(),
+            ..self
+        }
     }
 }
 
 // A seat's own word on a day, if there is one.
-fn word(own: u32, day: Option<Day>) -> Option<Message>
+pub fn word(own: u32, day: Option<Day>) -> Option<Message>
     requires { own < most_parties }
     ensures { result ≡ own_word own day }
 {
-    match day {
-        Some(day) => Some(Message {
-            day,
-            signers: Signers::only(own),
-        }),
-        None => None,
-    }
+    let signers = Signers::only(own);
+    day.map(|day| Message { day, signers })
 }
 
 // The certificate that a quorum of words on one day makes; all who said it sign it.
+#[tactic(auto, using(crate::proofs::Reading::certificate_of_words))]
 fn certificate(seats: u32, words: &[Option<Message>]) -> Option<Message>
     requires { length words.now ≤ most_parties }
     ensures { result ≡ certificate_of seats (days words.now) }
 {
-    match reaching(words, quorum(seats) as usize) {
-        Some(day) => Some(Message {
-            day,
-            signers: naming(words, day),
-        }),
-        None => None,
-    }
+    reaching(words, quorum(seats) as usize).map(|day| Message {
+        day,
+        signers: naming(words, day),
+    })
 }
 
 // The day, unless a certificate of another has arrived.
+#[tactic(auto, using(crate::proofs::Grades::is_undisputed, crate::proofs::Grades::disputed_is_none))]
 fn undisputed(certificates: &[Option<Message>], day: Option<Day>) -> Option<Day>
     ensures { result ≡ unless_disputed (days certificates.now) day }
 {
-    match day {
-        Some(own) if !disputed(certificates, own) => day,
-        _ => None,
-    }
+    day.filter(|day| !disputed(certificates, *day))
 }

@@ -3,22 +3,11 @@ use crate::slots::filled;
 use message::entries::{NamesDay, count, disputed, naming, reaching};
 use message::{Day, Signers};
 
-// 0 stands for an empty entry.
-const MIXED: [Day; 5] = [9, 0, 7, 9, 7];
+const MIXED: [Option<Day>; 5] = [Some(9), None, Some(7), Some(9), Some(7)];
 
-const SAME: [Day; 5] = [7, 0, 0, 7, 7];
+const SAME: [Option<Day>; 5] = [Some(7), None, None, Some(7), Some(7)];
 
-const EMPTY: [Day; 5] = [0; 5];
-
-fn entries(days: [Day; 5]) -> [Option<Day>; 5] {
-    let mut entries = [None; 5];
-    for (i, day) in days.iter().enumerate() {
-        if *day > 0 {
-            entries[i] = Some(*day);
-        }
-    }
-    entries
-}
+const EMPTY: [Option<Day>; 5] = [None; 5];
 
 // How many entries name the day, which ones do, and whether some entry names another.
 fn read<T: NamesDay>(entries: &[T; 5], day: Day) -> (usize, Signers, bool) {
@@ -35,7 +24,7 @@ fn days_are_counted_placed_and_disputed(rt: HostRuntime) {
         (EMPTY, 7, (0, Signers::none(), false)),
     ];
     for (days, day, expected) in cases {
-        assert_eq!(rt; read(&entries(days), day), expected);
+        assert_eq!(rt; read(&days, day), expected);
         assert_eq!(rt; read(&filled(days), day), expected);
     }
 }
@@ -51,7 +40,7 @@ fn the_lowest_day_over_the_mark_is_found(rt: HostRuntime) {
         (EMPTY, 1, None),
     ];
     for (days, mark, lowest) in cases {
-        assert_eq!(rt; reaching(&entries(days), mark), lowest);
+        assert_eq!(rt; reaching(&days, mark), lowest);
         assert_eq!(rt; reaching(&filled(days), mark), lowest);
     }
 }

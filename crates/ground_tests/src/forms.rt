@@ -2,7 +2,7 @@
 use graded::table::form;
 use message::Signers;
 use message::refusals::Refusal;
-use protocol::Form;
+use protocol::{Form, Seating, Spot};
 
 const LISTED: Result<Form, Refusal> = Ok(Form::Listed);
 
@@ -12,6 +12,7 @@ const REFUSED: Result<Form, Refusal> = Err(Refusal::NoForm);
 
 #[test]
 fn words_are_signed_alone_and_certificates_by_a_quorum(rt: HostRuntime) {
+    let seating = Seating { seats: 5, own: 1 };
     let sender = Signers::only(1);
     let another = Signers::only(2);
     let two = Signers::first(2);
@@ -36,7 +37,7 @@ fn words_are_signed_alone_and_certificates_by_a_quorum(rt: HostRuntime) {
         (5, 0, three, REFUSED),
     ];
     for (round, topic, signers, expected) in cases {
-        let found = form(5, round, topic, 1, signers);
-        assert_eq!(rt; (round, topic, found), (round, topic, expected));
+        let spot = Spot { round, topic };
+        assert_eq!(rt; (spot, form(seating, spot, signers)), (spot, expected));
     }
 }

@@ -1,4 +1,4 @@
-// Tests of the ground: sets of signers, counts, refusals, and the graded agreement's forms and rounds.
+// Tests of the ground: sets of signers, counts, refusals, and the graded agreement's roles, forms and rounds.
 #![tactic(auto)]
 
 #[cfg(test)]
@@ -7,6 +7,8 @@ mod counts;
 mod forms;
 #[cfg(test)]
 mod refusals;
+#[cfg(test)]
+mod roles;
 #[cfg(test)]
 mod rounds;
 #[cfg(test)]

@@ -1,7 +1,25 @@
 // What a seat of five does with what reaches it in each of the four rounds; where only the first topic matters, the second is left out.
-use crate::slots::{filled, said};
+use crate::slots::filled;
 use graded::seats::Seat;
-use message::Signers;
+use message::{Day, Message, Signers};
+use protocol::Spot;
+
+const ECHO_CERTIFICATES: Spot = Spot { round: 2, topic: 0 };
+
+const VOTES: Spot = Spot { round: 3, topic: 0 };
+
+const VOTE_CERTIFICATES: Spot = Spot { round: 4, topic: 0 };
+
+const SECOND_VOTES: Spot = Spot { round: 4, topic: 1 };
+
+fn said(day: Day, signers: Signers) -> Option<Message> {
+    Some(Message { day, signers })
+}
+
+// Slots written as days: 0 stands for an empty slot.
+fn slots<const N: usize>(days: [Day; N]) -> [Option<Message>; N] {
+    filled(days.map(|day| (day > 0).then_some(day)))
+}
 
 #[test]
 fn a_quorum_makes_a_certificate(rt: HostRuntime) {
@@ -16,10 +34,14 @@ fn a_quorum_makes_a_certificate(rt: HostRuntime) {
         ([0; 5], None, None),
     ];
     for (days, certificate, second) in cases {
-        let words = filled(days);
+        let words = slots(days);
         let echoes = seat.hear(1, &words);
         let votes = seat.hear(3, &words);
-        let sent = (echoes.send(2, 0), votes.send(4, 0), votes.send(4, 1));
+        let sent = (
+            echoes.send(ECHO_CERTIFICATES),
+            votes.send(VOTE_CERTIFICATES),
+            votes.send(SECOND_VOTES),
+        );
         assert_eq!(rt; sent, (certificate, certificate, second));
     }
 }
@@ -36,8 +58,8 @@ fn a_seat_votes_for_its_certificate_unless_disputed(rt: HostRuntime) {
         ([9, 9, 7, 7, 0], [0, 0, 7, 0, 0], None),
     ];
     for (echoes, certificates, expected) in cases {
-        let after = seat.hear(1, &filled(echoes)).hear(2, &filled(certificates));
-        assert_eq!(rt; after.send(3, 0), expected);
+        let after = seat.hear(1, &slots(echoes)).hear(2, &slots(certificates));
+        assert_eq!(rt; after.send(VOTES), expected);
     }
 }
 
@@ -53,17 +75,17 @@ fn a_seat_leaves_with_the_lowest_certified_day(rt: HostRuntime) {
         ([0, 0, 0, 0, 0, 7, 7, 0, 9, 7], (4, true)),
     ];
     for (days, expected) in cases {
-        assert_eq!(rt; seat.hear(4, &filled(days)).outcome(), expected);
+        assert_eq!(rt; seat.hear(4, &slots(days)).outcome(), expected);
     }
 }
 
 #[test]
 fn missing_slots_are_empty(rt: HostRuntime) {
     let seat = Seat::start(5, 3, 4);
-    let full = filled([7; 10]);
-    assert_eq!(rt; seat.hear(1, &full[0..2]).send(2, 0), None);
+    let full = slots([7; 10]);
+    assert_eq!(rt; seat.hear(1, &full[0..2]).send(ECHO_CERTIFICATES), None);
     let three = said(7, Signers::first(3));
-    assert_eq!(rt; seat.hear(1, &full[0..3]).send(2, 0), three);
+    assert_eq!(rt; seat.hear(1, &full[0..3]).send(ECHO_CERTIFICATES), three);
     // the first topic whole, and of the second two slots or three
     assert_eq!(rt; seat.hear(4, &full[0..7]).outcome(), (7, false));
     assert_eq!(rt; seat.hear(4, &full[0..8]).outcome(), (7, true));

@@ -1,6 +1,6 @@
 -- A play stays one when those who are corrupt in the end are taken as corrupt from the start.
-use Rattle.std.proofs.Common.{◌≡◌, ℕ, zero, suc, ◌-◌, ◌<◌, ◌≤◌, Bool, true, false, ◌⊎◌, Some, sym, refl, ap, ◌∙◌, subst, inl, inr, arith}
-use Rattle.std.proofs.lemmas.Bool.{cases_Bool, cases_eq, both_ways}
+use Rattle.std.proofs.Common.{◌≡◌, ℕ, zero, suc, ◌-◌, ◌<◌, ◌≤◌, Bool, true, false, ◌⊎◌, Some, sym, refl, ap, ◌∙◌, subst, inl, inr, ⊎_elim, arith}
+use Rattle.std.proofs.lemmas.Bool.{cases_Bool, cases_eq, both_ways, false_from_ne_true}
 use Rattle.message.specs.declared.Message.{Message}
 use Rattle.message.specs.Members.{member}
 use Rattle.message.proofs.Counting.{count_some}
@@ -35,11 +35,7 @@ module _ {R : Type 0} (p : Protocol R) (k : ℕ) (tr : Trace) (F : ℕ → Bool)
     in_F r i h hi bad = all i hi (corrupt_to_the_end p k tr play (p.rounds k - r) r i (omega arith) hi bad)
 
     honest_now : (r i : ℕ) → r ≤ p.rounds k → i < k → F i ≡ false → tr.corrupt r i ≡ false
-    honest_now r i h hi e = go (cases_Bool (tr.corrupt r i))
-      where
-        go : (tr.corrupt r i ≡ true) ⊎ (tr.corrupt r i ≡ false) → tr.corrupt r i ≡ false
-        go (inl bad) = absurd (both_ways (F i) e (in_F r i h hi bad))
-        go (inr good) = good
+    honest_now r i h hi e = false_from_ne_true (tr.corrupt r i) (λ bad. both_ways (F i) e (in_F r i h hi bad))
 
     -- a signature stands if its seat is in F, or outside F and has said the sentence
     abbrev Stands : ℕ → ℕ → ℕ → ℕ → Type 0
@@ -55,11 +51,10 @@ module _ {R : Type 0} (p : Protocol R) (k : ℕ) (tr : Trace) (F : ℕ → Bool)
     }
 
     still_said : (r about day s : ℕ) → Said p k tr r about day s → Stands r about day s
-    still_said r about day s it = go (cases_Bool (F s))
-      where
-        go : (F s ≡ true) ⊎ (F s ≡ false) → Stands r about day s
-        go (inl bad) = inl bad
-        go (inr good) = inr (record {
+    still_said r about day s it =
+        ⊎_elim inl
+        (λ good.
+        inr (record {
           before = it.before;
           topic = it.topic;
           message = it.message;
@@ -69,7 +64,8 @@ module _ {R : Type 0} (p : Protocol R) (k : ℕ) (tr : Trace) (F : ℕ → Bool)
           of_kind = it.of_kind;
           on_day = it.on_day;
           signed = it.signed;
-        })
+        }))
+        (cases_Bool (F s))
 
     stands_later : (r r' about day s : ℕ) → r ≤ r' → Stands r about day s → Stands r' about day s
     stands_later r r' about day s h (inl bad) = inl bad

@@ -1,6 +1,6 @@
 -- Who is corrupt when: earlier is fewer, and whoever is outside the last set is honest all along.
-use Rattle.std.proofs.Common.{◌≡◌, ℕ, zero, suc, ◌+◌, ◌-◌, ◌<◌, ◌≤◌, Bool, true, false, ◌⊎◌, sym, ap, ◌∙◌, subst, inl, inr, arith}
-use Rattle.std.proofs.lemmas.Bool.{cases_Bool, both_ways}
+use Rattle.std.proofs.Common.{◌≡◌, ℕ, zero, suc, ◌+◌, ◌-◌, ◌<◌, ◌≤◌, Bool, true, false, sym, ap, ◌∙◌, subst, arith}
+use Rattle.std.proofs.lemmas.Bool.{both_ways, false_from_ne_true}
 use Rattle.halving.specs.Theorems.{OnlyGrows}
 
 module _ (corrupt : ℕ → ℕ → Bool) (grows : OnlyGrows corrupt) where
@@ -13,11 +13,7 @@ module _ (corrupt : ℕ → ℕ → Bool) (grows : OnlyGrows corrupt) where
 
   -- who is honest later is honest now
   pub was_honest : (t t' p : ℕ) → t ≤ t' → corrupt t' p ≡ false → corrupt t p ≡ false
-  was_honest t t' p h good = go (cases_Bool (corrupt t p))
-    where
-      go : (corrupt t p ≡ true) ⊎ (corrupt t p ≡ false) → corrupt t p ≡ false
-      go (inl bad) = absurd (both_ways (corrupt t' p) good (later t t' p h bad))
-      go (inr fine) = fine
+  was_honest t t' p h good = false_from_ne_true (corrupt t p) (λ bad. both_ways (corrupt t' p) good (later t t' p h bad))
 
   -- at time t, whoever of s parties from lo on is corrupt is in F
   abbrev pub Within : (ℕ → Bool) → ℕ → ℕ → ℕ → Type 0
@@ -34,8 +30,4 @@ module _ (corrupt : ℕ → ℕ → Bool) (grows : OnlyGrows corrupt) where
         ap F here ∙ all (skip + i) (omega arith) (sym (ap (corrupt t) here) ∙ bad)
 
     pub outside : (t lo s i : ℕ) → Within F t lo s → i < s → F (lo + i) ≡ false → corrupt t (lo + i) ≡ false
-    outside t lo s i all hi good = go (cases_Bool (corrupt t (lo + i)))
-      where
-        go : (corrupt t (lo + i) ≡ true) ⊎ (corrupt t (lo + i) ≡ false) → corrupt t (lo + i) ≡ false
-        go (inl bad) = absurd (both_ways (F (lo + i)) good (all i hi bad))
-        go (inr fine) = fine
+    outside t lo s i all hi good = false_from_ne_true (corrupt t (lo + i)) (λ bad. both_ways (F (lo + i)) good (all i hi bad))

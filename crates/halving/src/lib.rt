@@ -6,37 +6,27 @@ ghost use Rattle.halving.specs.Frozen.{PlaysFreeze};
 ghost use Rattle.halving.specs.Theorems.{HalvesAgree, HalvingStaysWithinBound, ExecutionsExist, HonestExecutionsEndSure};
 
 // A play is also a play with all those corrupt from the start that are corrupt in the end.
-pub fn plays_freeze<R>() -> u8
+pub fn plays_freeze<R>()
     ensures { PlaysFreeze R }
-{
-    0
-}
+{}
 
 // With fewer than a d-th of its parties corrupt at the very end, any two that end honest leave a committee with one day, their common one if
 // they have one.
-pub fn halves_agree<B, G>() -> u8
+pub fn halves_agree<B, G>()
     ensures { HalvesAgree B G }
-{
-    0
-}
+{}
 
 // However many are corrupt, s parties send at most 22s² − 11 signatures while honest.
-pub fn halving_stays_within_bound<B, G>() -> u8
+pub fn halving_stays_within_bound<B, G>()
     ensures { HalvingStaysWithinBound B G }
-{
-    0
-}
+{}
 
 // There are executions of every tree, on all days, whoever is corrupted when.
-pub fn executions_exist<B, G>() -> u8
+pub fn executions_exist<B, G>()
     ensures { ExecutionsExist B G }
-{
-    0
-}
+{}
 
 // Where nobody is corrupt before the last report, all hold one day at grade 1 when it opens.
-pub fn honest_executions_end_sure<B, G>() -> u8
+pub fn honest_executions_end_sure<B, G>()
     ensures { HonestExecutionsEndSure B G }
-{
-    0
-}
+{}

@@ -1,31 +1,25 @@
 -- The laws of `count` and `sum`: what is counted where tests agree, meet, or part, and what sums are bounded by.
-use Rattle.std.proofs.Common.{◌≡◌, ℕ, zero, suc, ◌+◌, ◌*◌, ◌<◌, ◌≤◌, Bool, true, false, cond, not, ◌&&◌, ◌||◌, eqb, ◌≢◌, ◌⊎◌, sym, refl, ap, ◌∙◌, subst, inl, inr, add-zero, add-suc, arith}
-use Rattle.std.proofs.lemmas.Bool.{cases_Bool, cases_eq, eq-eqb, eqb-true, or_left, or_right, or_cases, and_parts}
+use Rattle.std.proofs.Common.{◌≡◌, ℕ, zero, suc, ◌+◌, ◌*◌, ◌<◌, ◌≤◌, Bool, true, false, cond, not, ◌&&◌, ◌||◌, eqb, ◌≢◌, ◌⊎◌, ⊎_elim, sym, refl, ap, ◌∙◌, inl, inr, add-zero, add-suc, arith}
+use Rattle.std.proofs.Math.Logic.{⊎_map}
+use Rattle.std.proofs.lemmas.Bool.{cases_Bool, false_from_ne_true, cases_eq, eq-eqb, eqb-true, or_cases}
 use Rattle.message.specs.Count.{count, sum}
 
 -- a number below suc n is below n, or is n
 pub below_suc : (P : ℕ → Type 0) (n : ℕ) → ((i : ℕ) → i < n → P i) → P n → (i : ℕ) → i < suc n → P i
-below_suc P n below here i h = go (cases_eq i n)
-  where
-    go : (i ≡ n) ⊎ (i ≡ n → ⊥) → P i
-    go (inl e) = subst P (sym e) here
-    go (inr l) = below i (omega arith)
+below_suc P n below here i h = grind arith
 
 -- a test is passed somewhere below n, or fails everywhere there
-pub somewhere : (f : ℕ → Bool) (n : ℕ) → ((i : ℕ) × (i < n) × (f i ≡ true)) ⊎ ((i : ℕ) → i < n → f i ≡ false)
-somewhere f zero = inr (λ i h. absurd (omega arith))
-somewhere f (suc n) = go (cases_Bool (f n)) (somewhere f n)
-  where
-    go : (f n ≡ true) ⊎ (f n ≡ false) → ((i : ℕ) × (i < n) × (f i ≡ true)) ⊎ ((i : ℕ) → i < n → f i ≡ false)
-        → ((i : ℕ) × (i < suc n) × (f i ≡ true)) ⊎ ((i : ℕ) → i < suc n → f i ≡ false)
-    go (inl e) ih = inl (n, omega arith, e)
-    go (inr e) (inl s) = inl (s.0, omega arith, s.2)
-    go (inr e) (inr all) = inr (below_suc (λ i. f i ≡ false) n all e)
+somewhere : (f : ℕ → Bool) (n : ℕ) → ((i : ℕ) × (i < n) × (f i ≡ true)) ⊎ ((i : ℕ) → i < n → f i ≡ false)
+somewhere f zero = grind arith
+somewhere f (suc n) =
+    ⊎_elim (λ e. inl (n, omega arith, e))
+    (λ e. ⊎_map (λ s. (s.0, omega arith, s.2)) (λ all. below_suc (λ i. f i ≡ false) n all e) (somewhere f n))
+    (cases_Bool (f n))
 
 pub count_le : (f : ℕ → Bool) (n : ℕ) → count f n ≤ n
 unfolding count
 count_le f zero = omega arith
-count_le f (suc n) = let ih = count_le f n in elim (f n) as (λ b. count f n + cond b 1 0 ≤ suc n) [ true ↦ omega arith | false ↦ omega arith ]
+count_le f (suc n) = let ih = count_le f n in grind arith
 
 -- a test that passes wherever another does passes at least as often
 pub count_mono : (f g : ℕ → Bool) (n : ℕ) → ((i : ℕ) → i < n → f i ≡ true → g i ≡ true) → count f n ≤ count g n
@@ -85,27 +79,16 @@ count_front f (suc n) = omega (arith, count_front f n)
 
 -- where f passes more often than g, it passes somewhere that g does not
 pub count_more : (f g : ℕ → Bool) (n : ℕ) → count g n < count f n → (i : ℕ) × (i < n) × (f i ≡ true) × (g i ≡ false)
-count_more f g n h = go (somewhere (λ i. f i && not (g i)) n)
+count_more f g n h =
+    ⊎_elim (λ s. grind arith) (λ all. absurd (omega (arith, count_mono f g n (λ i l e. none (f i) (g i) (all i l) e))))
+    (somewhere (λ i. f i && not (g i)) n)
   where
-    parts : (a b : Bool) → (a && not b) ≡ true → (a ≡ true) × (b ≡ false)
-    parts a b e = grind arith
-
     none : (a b : Bool) → (a && not b) ≡ false → a ≡ true → b ≡ true
     none a b e k = grind arith
 
-    go : ((i : ℕ) × (i < n) × ((f i && not (g i)) ≡ true)) ⊎ ((i : ℕ) → i < n → (f i && not (g i)) ≡ false)
-        → (i : ℕ) × (i < n) × (f i ≡ true) × (g i ≡ false)
-    go (inl s) = let p = parts (f s.0) (g s.0) s.2 in (s.0, s.1, p.0, p.1)
-    go (inr all) = absurd (omega (arith, count_mono f g n (λ i l. none (f i) (g i) (all i l))))
-
 -- two tests that pass more than n times together, pass together somewhere
 pub count_meet : (f g : ℕ → Bool) (n : ℕ) → n < count f n + count g n → (i : ℕ) × (i < n) × (f i ≡ true) × (g i ≡ true)
-count_meet f g n h =
-    let s = count_more f (λ i. not (g i)) n (omega (arith, count_not g n)) in
-    (s.0, s.1, s.2, turn (g s.0) s.3)
-  where
-    turn : (b : Bool) → not b ≡ false → b ≡ true
-    turn b e = grind arith
+count_meet f g n h = grind (arith, count_more, count_not)
 
 pub count_some : (f : ℕ → Bool) (n : ℕ) → 0 < count f n → (i : ℕ) × (i < n) × (f i ≡ true)
 count_some f n h =
@@ -120,14 +103,10 @@ count_pos f (suc n) i h e = go (cases_eq i n) (λ l. count_pos f n i l e)
   where
     go : (i ≡ n) ⊎ (i ≡ n → ⊥) → (i < n → 0 < count f n) → 0 < count f n + cond (f n) 1 0
     go (inl at) ih = rw (ap f (sym at) ∙ e) (omega arith)
-    go (inr off) ih = omega (arith, ih (omega arith))
+    go (inr off) ih = omega arith
 
 pub count_zero : (f : ℕ → Bool) (n i : ℕ) → count f n ≡ 0 → i < n → f i ≡ false
-count_zero f n i none h = go (cases_Bool (f i))
-  where
-    go : (f i ≡ true) ⊎ (f i ≡ false) → f i ≡ false
-    go (inl e) = absurd (omega (arith, count_pos f n i h e))
-    go (inr e) = e
+count_zero f n i none h = false_from_ne_true (f i) (λ e. omega (arith, count_pos f n i h e))
 
 -- a test that only one number can pass is passed at most once
 pub count_one : (f : ℕ → Bool) (i n : ℕ) → ((s : ℕ) → f s ≡ true → s ≡ i) → count f n ≤ 1
@@ -136,11 +115,7 @@ count_one f i zero only = omega arith
 count_one f i (suc n) only = go (cases_Bool (f n)) (count_one f i n only)
   where
     before : f n ≡ true → (s : ℕ) → s < n → f s ≡ false
-    before e s h = side (cases_Bool (f s))
-      where
-        side : (f s ≡ true) ⊎ (f s ≡ false) → f s ≡ false
-        side (inl t) = absurd (omega (arith, only s t, only n e))
-        side (inr t) = t
+    before e s h = false_from_ne_true (f s) (λ t. omega (arith, only s t, only n e))
 
     go : (f n ≡ true) ⊎ (f n ≡ false) → count f n ≤ 1 → count f n + cond (f n) 1 0 ≤ 1
     go (inl e) ih = rw e (omega (arith, count_none f n (before e)))
@@ -158,8 +133,7 @@ count_two f i j n only =
     )
   where
     either : (s : ℕ) → (s ≡ i) ⊎ (s ≡ j) → (eqb s i || eqb s j) ≡ true
-    either s (inl e) = or_left (eqb s i) (eqb s j) (eq-eqb s i e)
-    either s (inr e) = or_right (eqb s i) (eqb s j) (eq-eqb s j e)
+    either s e = grind arith
 
 -- what is passed at two places is counted twice
 pub count_both : (f : ℕ → Bool) (n i j : ℕ) → i < n → j < n → i ≢ j → f i ≡ true → f j ≡ true → 2 ≤ count f n
@@ -168,7 +142,7 @@ count_both f n i j hi hj off fi fj =
       arith,
       count_mono (λ s. eqb s i || eqb s j) f n (λ s _ e. passes s (or_cases (eqb s i) (eqb s j) e)),
       count_or_and (λ s. eqb s i) (λ s. eqb s j) n,
-      count_none (λ s. eqb s i && eqb s j) n (λ s _. apart s (cases_Bool (eqb s i && eqb s j))),
+      count_none (λ s. eqb s i && eqb s j) n (λ s _. apart s),
       count_pos (λ s. eqb s i) n i hi (eq-eqb i i refl),
       count_pos (λ s. eqb s j) n j hj (eq-eqb j j refl),
     )
@@ -177,19 +151,8 @@ count_both f n i j hi hj off fi fj =
     passes s (inl e) = ap f (eqb-true s i e) ∙ fi
     passes s (inr e) = ap f (eqb-true s j e) ∙ fj
 
-    apart : (s : ℕ) → ((eqb s i && eqb s j) ≡ true) ⊎ ((eqb s i && eqb s j) ≡ false) → (eqb s i && eqb s j) ≡ false
-    apart s (inl e) =
-        let both = and_parts (eqb s i) (eqb s j) e in
-        absurd (off (sym (eqb-true s i both.0) ∙ eqb-true s j both.1))
-    apart s (inr e) = e
-
-pub sum_mono : (f g : ℕ → ℕ) (n : ℕ) → ((i : ℕ) → i < n → f i ≤ g i) → sum f n ≤ sum g n
-unfolding sum
-sum_mono f g zero h = omega arith
-sum_mono f g (suc n) h =
-    let ih = sum_mono f g n (λ i l. h i (omega arith)) in
-    let k = h n (omega arith) in
-    omega arith
+    apart : (s : ℕ) → (eqb s i && eqb s j) ≡ false
+    apart s = grind arith
 
 -- n values of at most b each
 pub sum_bound : (f : ℕ → ℕ) (b n : ℕ) → ((i : ℕ) → i < n → f i ≤ b) → sum f n ≤ n * b

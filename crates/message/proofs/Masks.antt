@@ -1,11 +1,11 @@
 -- Sets as numbers: who is a member of a set that is made from others, when two sets are one, and how large a set is.
-use Rattle.std.proofs.Common.{◌≡◌, ℕ, zero, suc, ◌+◌, ◌-◌, ◌*◌, ◌/◌, ◌%◌, ◌^◌, ◌<◌, ◌≤◌, Bool, true, false, cond, not, ◌&&◌, ◌||◌, eqb, ltb, leb, ◌≢◌, ◌⊎◌, MatchBool, sym, refl, ap, ◌∙◌, subst, inl, inr, ⊎_elim, add-zero, mul_assoc, add_comm, pow-suc, zero-add, div-one, one-add, arith}
+use Rattle.std.proofs.Common.{◌≡◌, ℕ, zero, suc, ◌+◌, ◌-◌, ◌*◌, ◌/◌, ◌%◌, ◌^◌, ◌<◌, ◌≤◌, Bool, true, false, cond, not, ◌&&◌, ◌||◌, eqb, ltb, leb, ◌≢◌, ◌⊎◌, sym, refl, ap, ◌∙◌, subst, inl, inr, ⊎_elim, add-zero, mul_assoc, add_comm, pow-suc, zero-add, div-one, one-add, arith}
 use native.Mathlib.Nat.{add-mul-div_right, add-div_right, div-eq_of_lt, sub-zero}
 use lib.Bits.{bit_and, bit_or, and_step, or_step}
 use lib.Count.{ones, ones_step}
 use lib.Pow.{ones_split}
 use Rattle.std.proofs.lemmas.Nat.{pow_pos, pow-add, pow_below, shl-shr, shr-shr, shr_split, shr_high, mod_below, and_mask, and_le_l, and_shr, or_shr}
-use Rattle.std.proofs.lemmas.Bool.{cases_eq, cases_lt, cases_order, both_ways, eq-eqb, ne_eqb, eqb-true, eqb-false, not-true, not-false, lt-ltb, le-ltb, le-leb, lt-leb, and_parts}
+use Rattle.std.proofs.lemmas.Bool.{cases_eq, cases_lt, cases_order, both_ways, eq-eqb, ne_eqb, eqb-true, eqb-false, lt-ltb, le-ltb, le-leb, lt-leb, and_parts}
 use Rattle.message.specs.Count.{count}
 use Rattle.message.specs.Members.{member, size, gathered, Holds, TellsSubset}
 use Rattle.message.proofs.Counting.{below_suc, count_same}
@@ -222,16 +222,14 @@ some_before k set some =
     (i, found.1, parts.0)
 
 -- the low bits tell whether a set has a member below k
-pub tells_below :
-    (k set low : ℕ) → low ≡ 2 ^ k - 1 → (r : Bool) → not (eqb (bit_and set low) 0) ≡ r
-    → MatchBool r ((i : ℕ) × (i < k) × (member i set ≡ true)) (set ≡ set / 2 ^ k * 2 ^ k)
-tells_below k set low is true e =
+pub some_below : (k set low : ℕ) → low ≡ 2 ^ k - 1 → bit_and set low ≢ 0 → (i : ℕ) × (i < k) × (member i set ≡ true)
+some_below k set low is some =
     let front : bit_and set low ≡ set % 2 ^ k = rw is (and_mask set k) in
-    let some = eqb-false (bit_and set low) 0 (not-true (eqb (bit_and set low) 0) e) in
     some_before k set (omega arith)
-tells_below k set low is false e =
+
+pub none_below : (k set low : ℕ) → low ≡ 2 ^ k - 1 → bit_and set low ≡ 0 → set ≡ set / 2 ^ k * 2 ^ k
+none_below k set low is none =
     let front : bit_and set low ≡ set % 2 ^ k = rw is (and_mask set k) in
-    let none = eqb-true (bit_and set low) 0 (not-false (eqb (bit_and set low) 0) e) in
     let split = shr_split set k in
     omega arith
 
@@ -305,24 +303,6 @@ member_gathered f (suc k) i h =
     new : (b : Bool) → member k (gathered f k + cond b (2 ^ k) 0) ≡ b
     new true = here (gathered f k) k (gathered_below f k)
     new false = ap (member k) (add-zero (gathered f k)) ∙ above (gathered f k) k (gathered_below f k)
-
--- one number more
-pub gathered_yes :
-    (f : ℕ → Bool) (k old set : ℕ) → f k ≡ true → Holds old (λ i. ltb i k && f i) → Holds set (λ i. eqb i k || member i old)
-    → Holds set (λ i. ltb i (k + 1) && f i)
-gathered_yes f k old set e so_far more i = more i ∙ ap (λ x. eqb i k || x) (so_far i) ∙ go (cases_eq i k)
-  where
-    go : (i ≡ k) ⊎ (i ≡ k → ⊥) → (eqb i k || (ltb i k && f i)) ≡ (ltb i (k + 1) && f i)
-    go (inl at) = let fi = ap f at ∙ e in grind arith
-    go (inr off) = grind arith
-
-pub gathered_no :
-    (f : ℕ → Bool) (k set : ℕ) → f k ≡ false → Holds set (λ i. ltb i k && f i) → Holds set (λ i. ltb i (k + 1) && f i)
-gathered_no f k set e so_far i = so_far i ∙ go (cases_eq i k)
-  where
-    go : (i ≡ k) ⊎ (i ≡ k → ⊥) → (ltb i k && f i) ≡ (ltb i (k + 1) && f i)
-    go (inl at) = let fi = ap f at ∙ e in grind arith
-    go (inr off) = grind arith
 
 -- and there is one such set
 pub gathered_is : (f : ℕ → Bool) (k set : ℕ) → Holds set (λ i. ltb i k && f i) → set ≡ gathered f k

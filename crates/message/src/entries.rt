@@ -1,9 +1,9 @@
 // Entries that may name a day: one count, and what is read off it.
 ghost use Rattle.std.specs.Prelude.{◌≡◌, ℕ, ◌≤◌, map, length, Option};
 ghost use Rattle.message.specs.Members.{gathered, most_parties};
-ghost use Rattle.message.specs.Tally.{slot_day, names, differs, entry as entry_at, tally, earlier, passing, reaches, reaching as lowest_reaching, LowestReaching, TellsDispute};
+ghost use Rattle.message.specs.Tally.{slot_day, names, entry as entry_at, tally, reaching as lowest_reaching, LowestReaching, TellsDispute};
 
-use crate::{Day, Message, Signers, before};
+use crate::{Day, Message, Signers};
 
 // Something that may name a day: a slot of a wire, or an entry of a base agreement.
 pub trait NamesDay {
@@ -25,20 +25,7 @@ impl NamesDay for Option<Message> {
     ghost named = { slot_day };
 
     fn day(&self) -> Option<Day> {
-        match self {
-            Some(message) => Some(message.day),
-            None => None,
-        }
-    }
-}
-
-// Whether an entry names the day.
-fn is_for(entry: Option<Day>, day: Day) -> bool
-    ensures { result ≡ names day entry }
-{
-    match entry {
-        Some(other) => other == day,
-        None => false,
+        self.map(|message| message.day)
     }
 }
 
@@ -46,34 +33,7 @@ fn is_for(entry: Option<Day>, day: Day) -> bool
 pub fn count<T: NamesDay>(entries: &[T], day: Day) -> usize
     ensures { result ≡ tally (map T.named entries.now) day }
 {
-    let mut n: usize = 0;
-    for x in entries {
-        if is_for(x.day(), day) {
-            n += 1;
-        }
-    }
-    n
-}
-
-// The day, if there is one and at least `mark` entries name it; none passes a mark of 0.
-fn passing_mark<T: NamesDay>(entries: &[T], mark: usize, day: Option<Day>) -> Option<Day>
-    ensures { result ≡ passing (reaches mark (map T.named entries.now)) day }
-{
-    match day {
-        Some(u) if mark > 0 && count(entries, u) >= mark => day,
-        _ => None,
-    }
-}
-
-// The earlier of two days, where there are two.
-fn earlier_of(a: Option<Day>, b: Option<Day>) -> Option<Day>
-    ensures { result ≡ earlier a b }
-{
-    match (a, b) {
-        (Some(u), Some(v)) => if before(v, u) { b } else { a },
-        (Some(_), None) => a,
-        (None, _) => b,
-    }
+    entries.iter().filter(|x| x.day() == Some(day)).count()
 }
 
 // The lowest day that at least `mark` entries name, if there is one; no day reaches a mark of 0. Whoever looks for a quorum looks here.
@@ -81,33 +41,20 @@ pub fn reaching<T: NamesDay>(entries: &[T], mark: usize) -> Option<Day>
     ensures is { result ≡ lowest_reaching mark (map T.named entries.now) }
     ensures means { LowestReaching mark (map T.named entries.now) result }
 {
-    let mut best = None;
-    for x in entries {
-        best = earlier_of(passing_mark(entries, mark, x.day()), best);
-    }
-    best
-}
-
-// Whether an entry names another day.
-fn is_against(entry: Option<Day>, day: Day) -> bool
-    ensures { result ≡ differs day entry }
-{
-    match entry {
-        Some(other) => other != day,
-        None => false,
-    }
+    entries
+        .iter()
+        .filter_map(|x| x.day())
+        .filter(|day| mark > 0 && count(entries, *day) >= mark)
+        .min()
 }
 
 // Whether some entry names another day.
 pub fn disputed<T: NamesDay>(entries: &[T], day: Day) -> bool
     ensures { TellsDispute (map T.named entries.now) day result }
 {
-    for x in entries {
-        if is_against(x.day(), day) {
-            return true;
-        }
-    }
-    false
+    entries
+        .iter()
+        .any(|x| x.day().is_some_and(|other| other != day))
 }
 
 // The places of the entries that name the day, as a set.
@@ -117,7 +64,7 @@ pub fn naming<T: NamesDay>(entries: &[T], day: Day) -> Signers
 {
     let mut set = Signers::none();
     for (i, x) in entries.iter().enumerate() {
-        if is_for(x.day(), day) {
+        if x.day() == Some(day) {
             set = set.with(i as u32);
         }
     }

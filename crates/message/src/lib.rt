@@ -1,18 +1,15 @@
 // Days, sets of signers and messages: the words that every layer above speaks in.
 #![tactic(auto)]
 
-ghost use Rattle.std.specs.Prelude.{◌≡◌};
-ghost use Rattle.message.specs.Tally.{before as comes_before};
-
-mod bits;
 pub mod entries;
 pub mod refusals;
 pub mod sets;
 
-use crate::bits::Word;
-
 // A day: 0 to 65535, of which 0 is 1 January 1970.
 pub type Day = u16;
+
+// A machine word, with room for a bit per party.
+pub(crate) type Word = u32;
 
 // A set of signers, as a mask: bit i stands for member i. Members are seats inside a committee's agreement, and parties on the wire.
 #[derive(Clone, Copy, PartialEq, Eq, Debug)]
@@ -25,11 +22,4 @@ pub struct Signers {
 pub struct Message {
     pub day: Day,
     pub signers: Signers,
-}
-
-// Whether day u comes before day v: the one order by which lowest days are chosen.
-pub fn before(u: Day, v: Day) -> bool
-    ensures { result ≡ comes_before u v }
-{
-    u < v
 }

@@ -1,13 +1,12 @@
 // Why a call or a script is refused, and which layer says so.
-ghost use Rattle.std.specs.Prelude.{◌≡◌, ◌==◌};
+ghost use Rattle.std.specs.Prelude.{◌≡◌, Some};
 ghost use Rattle.message.specs.Table.{number_of, word_of};
 ghost use Rattle.message.specs.declared.refusals.Layer.TheVariants.{Execution};
-ghost use Rattle.std.specs.Cmp.Rules.{comparing};
-ghost use Rattle.std.proofs.Common.{rules};
-ghost use Rattle.std.specs.Cmp as Keys;
+
+use std::fmt;
 
 // A rule that a call or a script breaks. The numbers are those that callers and scripts are answered with.
-#[derive(Clone, Copy, Eq, Debug)]
+#[derive(Clone, Copy, Debug, PartialEq, Eq)]
 pub enum Refusal {
     PartiesOutOfRange = 1,
     LimitAboveParties = 2,
@@ -30,23 +29,12 @@ pub enum Refusal {
     NotYetOver = 28,
 }
 
-impl Refusal {
-    // The number that is answered.
-    pub fn number(self) -> u8
-        ensures { result ≡ number_of self }
-    {
-        self as u8
-    }
-}
+// The number that is answered.
+impl From<Refusal> for u8 {
+    ghost from_gives = { λ e n. n ≡ number_of e };
 
-// Refusals are the same if their numbers are; the derived comparison would tell a proof nothing, for it has too many cases.
-impl PartialEq for Refusal {
-    ghost eq = { λ x y. (number_of x == number_of y) };
-
-    ghost laws = { Keys.partial_equiv_from_equiv (Prim.search (comparing, rules)) };
-
-    fn eq(&self, other: &Refusal) -> bool {
-        self.number() == other.number()
+    fn from(refusal: Refusal) -> u8 {
+        refusal as u8
     }
 }
 
@@ -71,8 +59,16 @@ impl Layer {
     }
 }
 
+impl fmt::Display for Layer {
+    ghost output = { λ x. Some (word_of x) };
+
+    fn fmt<W: fmt::Write>(&self, f: &mut fmt::Formatter<W>) -> fmt::Result {
+        f.write_str(self.word())
+    }
+}
+
 // A refusal, and the layer from which it comes.
-#[derive(Clone, Copy)]
+#[derive(Clone, Copy, PartialEq, Eq, Debug)]
 pub struct Fault {
     pub refusal: Refusal,
     pub layer: Layer,

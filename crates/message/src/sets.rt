@@ -2,10 +2,10 @@
 ghost use Rattle.std.specs.Prelude.{◌≡◌, ℕ, ◌+◌, ◌-◌, ◌*◌, ◌^◌, ◌<◌, ◌≤◌, true, false, ◌&&◌, ◌||◌, MatchOption, ◌==◌, nat_eq, nat_le, nat_lt};
 ghost use Rattle.message.specs.Members.{member, size, Holds, TellsSubset, quorum as more_than_half, most_parties};
 
-use crate::{Signers, bits};
+use crate::{Signers, Word};
 
 // How many parties there can be: as many as a mask has bits.
-pub const MOST_PARTIES: u32 = bits::WIDTH;
+pub const MOST_PARTIES: u32 = Word::BITS;
 
 impl Signers {
     // Nobody.
@@ -13,7 +13,7 @@ impl Signers {
         ensures is { result.mask ≡ 0 }
         ensures members { Holds result.mask (λ _. false) }
     {
-        Signers { mask: bits::none() }
+        Signers { mask: 0 }
     }
 
     // One alone.
@@ -22,9 +22,7 @@ impl Signers {
         ensures is { result.mask ≡ 2 ^ seat }
         ensures members { Holds result.mask (λ i. nat_eq i seat) }
     {
-        Signers {
-            mask: bits::single(seat),
-        }
+        Signers { mask: 1 << seat }
     }
 
     // The first so many.
@@ -33,8 +31,11 @@ impl Signers {
         ensures is { result.mask ≡ 2 ^ seats - 1 }
         ensures members { Holds result.mask (λ i. nat_lt i seats) }
     {
+        if seats == 0 {
+            return Signers::none();
+        }
         Signers {
-            mask: bits::low(seats),
+            mask: Word::MAX >> (MOST_PARTIES - seats),
         }
     }
 
@@ -44,7 +45,7 @@ impl Signers {
         ensures { Holds result.mask (λ i. (i == seat) || member i self.mask) }
     {
         Signers {
-            mask: bits::put_in(self.mask, seat),
+            mask: self.mask | 1 << seat,
         }
     }
 
@@ -52,21 +53,21 @@ impl Signers {
     pub fn contains(self, seat: u32) -> bool
         ensures { result ≡ member seat self.mask }
     {
-        bits::holds(self.mask, seat)
+        seat < MOST_PARTIES && self.mask >> seat & 1 == 1
     }
 
     // How many members there are.
     pub fn len(self) -> u32
         ensures { (k : ℕ) → self.mask < 2 ^ k → result ≡ size k self.mask }
     {
-        bits::ones(self.mask)
+        self.mask.count_ones()
     }
 
     // Whether each member is a member of the other set.
     pub fn is_subset(self, other: Signers) -> bool
         ensures { TellsSubset self.mask other.mask result }
     {
-        bits::none_outside(self.mask, other.mask)
+        self.mask & !other.mask == 0
     }
 
     // Whether each member is one of the first so many.
@@ -74,7 +75,7 @@ impl Signers {
         requires { seats ≤ most_parties }
         ensures { result ≡ nat_lt self.mask (2 ^ seats) }
     {
-        bits::all_below(self.mask, seats)
+        self.mask <= Signers::first(seats).mask
     }
 
     // Seats of a committee as parties: seat i is party first + i.
@@ -85,7 +86,7 @@ impl Signers {
         ensures members { Holds result.mask (λ i. nat_le first i && member (i - first) self.mask) }
     {
         Signers {
-            mask: bits::up(self.mask, first),
+            mask: self.mask << first,
         }
     }
 
@@ -94,11 +95,11 @@ impl Signers {
         requires { first < most_parties }
         ensures { MatchOption result ((i : ℕ) × (i < first) × (member i self.mask ≡ true)) (λ seats. (self.mask ≡ seats.mask * 2 ^ first) × Holds seats.mask (λ i. member (first + i) self.mask)) }
     {
-        if bits::any_below(self.mask, first) {
+        if self.mask & Signers::first(first).mask != 0 {
             return None;
         }
         Some(Signers {
-            mask: bits::down(self.mask, first),
+            mask: self.mask >> first,
         })
     }
 }

@@ -1,6 +1,6 @@
 -- What arrives in a play, and from whom.
-use Rattle.std.proofs.Common.{◌≡◌, ℕ, zero, suc, ◌+◌, ◌<◌, true, false, ◌⊎◌, Some, sym, ◌∙◌, subst, inl, inr, arith}
-use Rattle.std.proofs.lemmas.Bool.{cases_Bool, both_ways}
+use Rattle.std.proofs.Common.{◌≡◌, ℕ, zero, suc, ◌+◌, ◌<◌, true, false, ◌⊎◌, Some, sym, ◌∙◌, subst, inl, inr, ⊎_elim, arith}
+use Rattle.std.proofs.lemmas.Bool.{cases_Bool, both_ways, false_from_ne_true}
 use Rattle.message.specs.declared.Message.{Message}
 use Rattle.protocol.specs.Protocol.{Protocol}
 use Rattle.protocol.specs.Play.{Trace, hears, Sends, Possible, Play}
@@ -8,27 +8,22 @@ use Rattle.protocol.specs.Play.{Trace, hears, Sends, Possible, Play}
 module _ {R : Type 0} (p : Protocol R) (k : ℕ) (tr : Trace) (play : Play p k tr) where
   -- who is honest when a round closes was honest when it opened
   pub was_honest : (r i : ℕ) → r < p.rounds k → i < k → tr.corrupt (suc r) i ≡ false → tr.corrupt r i ≡ false
-  was_honest r i hr hi e = go (cases_Bool (tr.corrupt r i))
-    where
-      go : (tr.corrupt r i ≡ true) ⊎ (tr.corrupt r i ≡ false) → tr.corrupt r i ≡ false
-      go (inl bad) = absurd (both_ways (tr.corrupt (suc r) i) e (play.stays r i hr hi bad))
-      go (inr good) = good
+  was_honest r i hr hi e = false_from_ne_true (tr.corrupt r i) (λ bad. both_ways (tr.corrupt (suc r) i) e (play.stays r i hr hi bad))
 
   -- what arrives was sent by an honest seat, or is what a corrupt one can bring about
   pub arrives : (r t j i : ℕ) (m : Message) → r < p.rounds k → t < p.topics → j < k → i < k → hears p k tr r t j i ≡ Some m
       → Sends p k tr r t j m ⊎ Possible p k tr r t j m
-  arrives r t j i m hr ht hj hi e = go (cases_Bool (tr.corrupt (suc r) j))
-    where
-      go : (tr.corrupt (suc r) j ≡ true) ⊎ (tr.corrupt (suc r) j ≡ false) → Sends p k tr r t j m ⊎ Possible p k tr r t j m
-      go (inl bad) = inr (play.from_corrupt r t j i hr ht hj hi bad m e)
-      go (inr good) =
-          inl (record {
-            a_round = hr;
-            a_topic = ht;
-            a_seat = hj;
-            honest = was_honest r j hr hj good;
-            says_it = sym (play.from_honest r t j i hr ht hj hi good) ∙ e;
-          })
+  arrives r t j i m hr ht hj hi e =
+      ⊎_elim (λ bad. inr (play.from_corrupt r t j i hr ht hj hi bad m e))
+      (λ good.
+      inl (record {
+        a_round = hr;
+        a_topic = ht;
+        a_seat = hj;
+        honest = was_honest r j hr hj good;
+        says_it = sym (play.from_honest r t j i hr ht hj hi good) ∙ e;
+      }))
+      (cases_Bool (tr.corrupt (suc r) j))
 
   -- who is corrupt at some time is so at the end
   pub corrupt_to_the_end : (n r i : ℕ) → r + n ≡ p.rounds k → i < k → tr.corrupt r i ≡ true → tr.corrupt (p.rounds k) i ≡ true

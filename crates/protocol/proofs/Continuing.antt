@@ -3,6 +3,7 @@ use Rattle.std.proofs.Common.{◌≡◌, ℕ, zero, suc, ◌+◌, ◌*◌, ◌/�
 use Rattle.std.specs.List.{range_with_len}
 use Rattle.std.proofs.lemmas.Nat.{mul-add-lt, div-mul-add, mod-mul-add}
 use Rattle.std.proofs.lemmas.List.FromFn.{get_or-map-range_with_len, length-map-range_with_len}
+use Rattle.std.proofs.lemmas.Option.{none-some}
 use Rattle.std.proofs.lemmas.Bool.{cond-true, cond-false, cases_lt, lt-ltb, le-ltb}
 use Rattle.message.specs.declared.Message.{Message}
 use Rattle.protocol.specs.Protocol.{Inbox, Protocol, arrived}
@@ -124,8 +125,7 @@ module _ {R : Type 0} (p : Protocol R) (k n : ℕ) (tr : Trace) where
         ⊎_elim
         (λ old. still_possible r t j m old (begun.from_corrupt r t j i old ht hj hi bad m (sym (old_hears r t j i old) ∙ e)))
         (λ new.
-        let none : None ≡ Some m = sym (new_hears r t j i new ht hj ∙ cond-true (tr.corrupt (suc r) j) None (says p k onward r t j) bad) ∙ e in
-        absurd (let z : ◌≡◌ {A = ℕ} 0 1 = cc in omega arith))
+        absurd (none-some m (sym (new_hears r t j i new ht hj ∙ cond-true (tr.corrupt (suc r) j) None (says p k onward r t j) bad) ∙ e)))
         (cases_lt r n)
 
     continued : Continued p k n tr
@@ -146,13 +146,4 @@ exist p k input corrupt days grows = (on.inbox, on.play)
     at_first = record { input = input; corrupt = corrupt; inbox = λ _ _. [] }
 
     on : Continued p k 0 at_first
-    on =
-        go_on p k 0 at_first (omega arith)
-        (record {
-          days = days;
-          stays = λ r i h. absurd (omega arith);
-          whole = λ r i h. absurd (omega arith);
-          from_honest = λ r t j i h. absurd (omega arith);
-          from_corrupt = λ r t j i h. absurd (omega arith);
-        })
-        grows
+    on = go_on p k 0 at_first (omega arith) (grind (arith, days)) grows

@@ -1,12 +1,14 @@
 -- Why a lawful base agreement of several seats takes a round, listens, and admits messages: else each seat would answer its own input.
-use Rattle.std.proofs.Common.{◌≡◌, ℕ, zero, suc, ◌*◌, ◌/◌, ◌%◌, ◌<◌, ◌≤◌, true, false, ◌⊎◌, get_or, Some, None, Option, sym, refl, ap, ◌∙◌, inl, inr, arith}
+use Rattle.std.proofs.Common.{◌≡◌, ℕ, zero, suc, ◌*◌, ◌/◌, ◌%◌, ◌<◌, ◌≤◌, false, get_or, Some, None, Option, sym, refl, ap, ◌∙◌, ⊎_elim, arith}
 use Rattle.std.proofs.lemmas.Nat.{div-add-mod', div_below, mod_below}
 use Rattle.std.proofs.lemmas.List.{ext_get_or}
 use Rattle.std.proofs.lemmas.Bool.{cases_Bool}
+use Rattle.std.proofs.lemmas.Option.{none-some}
 use Rattle.message.specs.declared.Message.{Message}
 use Rattle.message.specs.Count.{count}
 use Rattle.message.specs.Tally.{Day}
 use Rattle.message.proofs.Counting.{count_none}
+use Rattle.protocol.specs.declared.Form.{Form}
 use Rattle.protocol.specs.Protocol.{Inbox, Protocol, arrived}
 use Rattle.protocol.specs.Play.{Trace, state, says, hears, Play}
 use Rattle.protocol.specs.Agreement.{Meaning, protocol_of, base_topics, answer, Agrees, KeepsDiscipline}
@@ -58,33 +60,25 @@ module _ {R : Type 0} (a : Meaning R) (agrees : Agrees a) (k : ℕ) (two : 2 ≤
   -- without a round there is nothing to listen to
   no_round : a.rounds k ≡ 0 → DoesNotListen a k
   unfolding state
-  no_round none tr tr' play play' i h same =
-      ap (λ r. a.day (state P k tr r i)) none ∙ ap (λ v. a.day (a.start k i v)) same ∙ sym (ap (λ r. a.day (state P k tr' r i)) none)
+  no_round none tr tr' play play' i h same = cc
 
   -- where no message has a form, every slot stays empty
   module _ (disciplined : KeepsDiscipline a) (nothing : AdmitsNothing a k) where
+    -- nothing is there that would have a form
+    unformed : {r t j : ℕ} → j < k → (o : Option Message) → ((m : Message) → o ≡ Some m → (f : Form) × (a.form k (suc r) t j m.signers.mask ≡ Some f)) → o ≡ None
+    unformed hj None formed = refl
+    unformed {r = r} {t = t} {j = j} hj (Some m) formed =
+        let some = formed m refl in absurd (none-some some.0 (sym (nothing (suc r) t j m.signers.mask hj) ∙ some.1))
+
     module _ (tr : Trace) (play : Play P k tr) where
       silent : (r t j : ℕ) → r < a.rounds k → t < base_topics → j < k → tr.corrupt r j ≡ false → says P k tr r t j ≡ None
-      silent r t j hr ht hj good = go (says P k tr r t j) refl
-        where
-          go : (o : Option Message) → says P k tr r t j ≡ o → says P k tr r t j ≡ None
-          go None e = e
-          go (Some m) e =
-              let formed = (disciplined k (omega arith, few)).formed tr play r t j m (record { a_round = hr; a_topic = ht; a_seat = hj; honest = good; says_it = e }) in
-              let some = formed.1 in
-              let none = nothing (suc r) t j m.signers.mask hj in
-              absurd (let z : ◌≡◌ {A = ℕ} 0 1 = cc in omega arith)
+      silent r t j hr ht hj good = unformed hj (says P k tr r t j) (λ m e. (disciplined k (omega arith, few)).formed tr play r t j m (record { a_round = hr; a_topic = ht; a_seat = hj; honest = good; says_it = e }))
 
       empty : (r t j i : ℕ) → r < a.rounds k → t < base_topics → j < k → i < k → hears P k tr r t j i ≡ None
-      empty r t j i hr ht hj hi = go (cases_Bool (tr.corrupt (suc r) j)) (hears P k tr r t j i) refl
-        where
-          go : (tr.corrupt (suc r) j ≡ true) ⊎ (tr.corrupt (suc r) j ≡ false) → (o : Option Message) → hears P k tr r t j i ≡ o → hears P k tr r t j i ≡ None
-          go (inr good) o e = play.from_honest r t j i hr ht hj hi good ∙ silent r t j hr ht hj (was_honest P k tr play r j hr hj good)
-          go (inl bad) None e = e
-          go (inl bad) (Some m) e =
-              let some = (play.from_corrupt r t j i hr ht hj hi bad m e).formed in
-              let none = nothing (suc r) t j m.signers.mask hj in
-              absurd (let z : ◌≡◌ {A = ℕ} 0 1 = cc in omega arith)
+      empty r t j i hr ht hj hi =
+          ⊎_elim (λ bad. unformed hj (hears P k tr r t j i) (λ m e. let it = play.from_corrupt r t j i hr ht hj hi bad m e in (it.the_form, it.formed)))
+          (λ good. play.from_honest r t j i hr ht hj hi good ∙ silent r t j hr ht hj (was_honest P k tr play r j hr hj good))
+          (cases_Bool (tr.corrupt (suc r) j))
 
       slot : (r x i : ℕ) → r < a.rounds k → x < base_topics * k → i < k → get_or (tr.inbox (suc r) i) x None ≡ None
       unfolding arrived

@@ -1,12 +1,12 @@
 // Base agreements: what a committee that is small enough runs. Code above is written once for all of them, against meaning and laws.
-ghost use Rattle.std.specs.Prelude.{◌≡◌, ℕ, ◌<◌, ◌≤◌};
+ghost use Rattle.std.specs.Prelude.{◌≡◌, ℕ, ◌≤◌};
 ghost use Rattle.std.specs.Option.{ok_or};
 ghost use Rattle.message.specs.declared.refusals.Refusal.TheVariants.{NoForm};
 ghost use Rattle.message.specs.declared.refusals.Layer.TheVariants.{Base};
 ghost use Rattle.protocol.specs.Agreement.{Meaning, Seats, Sized, Agrees, StaysWithinBound, KeepsDiscipline};
 ghost use Rattle.protocol.specs.declared.agreement.Unformed.TheVariants.{NoSuchForm};
 
-use crate::Form;
+use crate::{Form, Seating, Spot};
 use message::refusals::{Fault, Layer, Refusal};
 use message::{Day, Message, Signers};
 
@@ -31,19 +31,20 @@ impl From<Unformed> for Fault {
 // An agreement among few seats, which it knows by number from 0; it counts rounds from 1 and topics from 0 to 7. Each method is an
 // equation with the meaning, and the laws are of the meaning.
 pub trait BaseAgreement {
-    // what one seat keeps from round to round
+    // what one seat keeps from round to round; that its numbers hold together is its own type's care
     type Record: Copy;
 
-    // the most seats that it is for, 1 to 4; no clause can name a constant, so `max_seats` answers it
+    // what the meaning sees of a record, which determines the record
+    type Plain;
+
+    // the most seats that it is for, 1 to 4
     const SEATS: u32;
 
-    ghost meaning: { Meaning Self.Record };
+    ghost SEATS: { ℕ };
 
-    // the record has come of `start` and `hear`
-    ghost kept: { Self.Record → Type 0 };
+    ghost plain: { Self.Record → Self.Plain };
 
-    fn max_seats() -> u32
-        ensures { result ≡ meaning.most };
+    ghost meaning: { Meaning Self.Plain };
 
     // How many rounds it takes, 0 to 16.
     fn rounds(seats: u32) -> u32
@@ -51,39 +52,30 @@ pub trait BaseAgreement {
         ensures { result ≡ meaning.rounds seats };
 
     // A seat's record before the first round.
-    fn start(seats: u32, own: u32, input: Day) -> Self::Record
-        requires sizes { Seats meaning seats }
-        requires seated { own < seats }
-        ensures is { result ≡ meaning.start seats own input }
-        ensures keeps { kept result };
+    fn start(own: Seating, input: Day) -> Self::Record
+        requires { Seats meaning own.seats }
+        ensures { plain result ≡ meaning.start own.seats own.own input };
 
-    // What a seat says to all seats in a round under a topic, if anything.
-    fn send(seat: &Self::Record, round: u32, topic: u32) -> Option<Message>
-        requires { kept seat.now }
-        ensures { result ≡ meaning.send seat.now round topic };
+    // What a seat says to all seats at a spot, if anything.
+    fn send(seat: &Self::Record, spot: Spot) -> Option<Message>
+        ensures { result ≡ meaning.send (plain seat.now) spot.round spot.topic };
 
     // A seat's record after a round in which this arrived: what seat i said under topic t is expected at t * seats + i.
     fn hear(seat: Self::Record, round: u32, inbox: &[Option<Message>]) -> Self::Record
-        requires { kept seat }
-        ensures is { result ≡ meaning.hear seat round inbox.now }
-        ensures keeps { kept result };
+        ensures { plain result ≡ meaning.hear (plain seat) round inbox.now };
 
     // The form of a message, or that it has none.
-    fn form(
-        seats: u32,
-        round: u32,
-        topic: u32,
-        sender: u32,
-        signers: Signers,
-    ) -> Result<Form, Unformed>
-        requires sizes { Seats meaning seats }
-        requires seated { sender < seats }
-        ensures { result ≡ ok_or (meaning.form seats round topic sender signers.mask) NoSuchForm };
+    fn form(sender: Seating, spot: Spot, signers: Signers) -> Result<Form, Unformed>
+        requires { Seats meaning sender.seats }
+        ensures { result ≡ ok_or (meaning.form sender.seats spot.round spot.topic sender.own signers.mask) NoSuchForm };
 
     // The day that a seat answers after the last round.
     fn day(seat: &Self::Record) -> Day
-        requires { kept seat.now }
-        ensures { result ≡ meaning.day seat.now };
+        ensures { result ≡ meaning.day (plain seat.now) };
+
+    ghost determined: { (a b : Self.Record) → plain a ≡ plain b → a ≡ b };
+
+    ghost most: { SEATS ≡ meaning.most };
 
     ghost sized: { Sized meaning };
 
@@ -100,7 +92,7 @@ pub fn most_seats<A: BaseAgreement>() -> u32
     ensures some { 1 ≤ result }
     ensures few { result ≤ 4 }
 {
-    A::max_seats()
+    A::SEATS
 }
 
 // The rounds of a base agreement: at most 16, and at least one where several seats are to agree.

@@ -1,18 +1,17 @@
 -- What the machine leaves is what the rules ask for.
-use Rattle.std.proofs.Common.{◌≡◌, ℕ, ◌+◌, ◌*◌, ◌/◌, ◌%◌, ◌<◌, ◌≤◌, cond, ◌&&◌, eqb, ltb, ◌≢◌, ◌⊎◌, List, length, get_or, Some, None, Option, sym, refl, ap, ◌∙◌, subst, inl, inr, ⊎_elim, mul_comm, arith}
-use Rattle.std.proofs.lemmas.Nat.{mul-add-lt, div-mul-add, mod-mul-add}
+use Rattle.std.proofs.Common.{◌≡◌, ℕ, ◌+◌, ◌*◌, ◌/◌, ◌%◌, ◌<◌, ◌≤◌, cond, ◌&&◌, eqb, ltb, ◌≢◌, ◌⊎◌, List, length, get_or, Some, None, Option, sym, refl, ap, ◌∙◌, ⊎_elim, arith}
+use Rattle.std.proofs.lemmas.Nat.{div-mul-add, mod-mul-add, same_from_place}
 use Rattle.std.proofs.lemmas.List.FromFn.{length-map-range_with_len, get_or-map-range_with_len}
 use Rattle.std.proofs.lemmas.List.{get_or_past, length-set, get_or-set_same, get_or-set_other}
-use Rattle.std.proofs.lemmas.Bool.{cases_lt, lt-ltb, le-ltb, eq-eqb, ne_eqb, and_from, and_left, and_right, cond-true, cond-false}
+use Rattle.std.proofs.lemmas.Bool.{cases_lt, lt-ltb, le-ltb, cond-true, cond-false}
 use Rattle.message.specs.declared.Message.{Message}
 use Rattle.message.proofs.Masks.{member_with}
 use Rattle.protocol.specs.Grading.{Grading}
 use Rattle.protocol.specs.Agreement.{Meaning, Sized}
 use Rattle.committee.specs.declared.stages.Stage.{Stage}
 use Rattle.runs.specs.State.{Party, State, room, here, nobody}
-use Rattle.runs.specs.Round.{work, topics_for, party_of, seat_of, ready, spoken}
-use Rattle.runs.specs.Hearing.{hears_in}
-use Rattle.runs.specs.Wire.{Slots, slot, used, Place, stands, to_parties, inbox_of}
+use Rattle.runs.specs.Round.{party_of, seat_of, ready, spoken}
+use Rattle.runs.specs.Wire.{Slots, slot, used, Place, stands, to_parties}
 use Rattle.runs.specs.Rules.{speaks, said_by, Opens, Ends, GoesOn, Corrupted, Injected, Heard, Closed}
 use Rattle.runs.specs.Machine.{rewired, topic_of, sender_of, silenced, after_corrupting, after_injecting, moved, after_hearing, slot_filled, after_opening, after_ending, going_on, after_closing}
 use Rattle.runs.specs.History.{seated, opened}
@@ -30,27 +29,23 @@ module _ {st : Stage} {t i j : ℕ} (at : Place st t i j) where
   slot_row : x / s ≡ t * s + i
   slot_row = div-mul-add (t * st.committee.size + i) st.committee.size j at.receiver
 
-  pub slot_topic : topic_of s x ≡ t
+  slot_topic : topic_of s x ≡ t
   slot_topic = ap (λ n. n / st.committee.size) slot_row ∙ div-mul-add t st.committee.size i at.sender
 
-  pub slot_sender : sender_of s x ≡ i
+  slot_sender : sender_of s x ≡ i
   slot_sender = ap (λ n. n % st.committee.size) slot_row ∙ mod-mul-add t st.committee.size i at.sender
 
   pub slot_used : x < used st
-  slot_used =
-      let T = topics_for (work st) in
-      let row : t * s + i < T * s = subst (λ n. t * s + i < n) (mul_comm s T) (mul-add-lt t s i T at.a_topic at.sender) in
-      subst (λ n. x < n) (mul_comm s (T * s)) (mul-add-lt (t * s + i) s j (T * s) row at.receiver)
+  slot_used = grind arith
 
 -- two places of one slot are one
 pub same_slot : {st : Stage} {t i j t' i' j' : ℕ} → Place st t i j → Place st t' i' j'
     → slot st.committee.size t i j ≡ slot st.committee.size t' i' j' → (t ≡ t') × (i ≡ i') × (j ≡ j')
 same_slot {st = st} {t = t} {i = i} {j = j} {t' = t'} {i' = i'} {j' = j'} p q e =
-    let s = st.committee.size in (
-      sym (slot_topic p) ∙ ap (topic_of st.committee.size) e ∙ slot_topic q,
-      sym (slot_sender p) ∙ ap (sender_of st.committee.size) e ∙ slot_sender q,
-      sym (mod-mul-add (t * s + i) s j p.receiver) ∙ ap (λ n. n % s) e ∙ mod-mul-add (t' * s + i') s j' q.receiver,
-    )
+    let s = st.committee.size in
+    let rows = same_from_place (t * s + i) j (t' * s + i') j' s p.receiver q.receiver e in
+    let seats = same_from_place t i t' i' s p.sender q.sender rows.0 in
+    (seats.0, seats.1, rows.1)
 
 -- ---- rewired wires
 
@@ -80,20 +75,7 @@ module _ {B G : Type 0} (a : Meaning B) (g : Grading G) where
 
   pub corrupting : (st : Stage) (p : ℕ) (old : State B G) → Corrupted a g st p old (after_corrupting a g st p old)
   unfolding after_corrupting silenced
-  corrupting st p old = record {
-    parties = refl;
-    limit = refl;
-    closings = refl;
-    count = refl;
-    held = refl;
-    corrupt = λ q. member_with q p old.corrupt;
-    gone = λ t i j at mine. rewired_none (silent st p) old.wire (slot st.committee.size t i j) (cond-true _ _ _ (and_from _ _ (lt-ltb _ _ (slot_used at)) (eq-eqb _ _ (ap (party_of st) (slot_sender at) ∙ mine))));
-    others = λ t i j at other. rewired_same (silent st p) old.wire (slot st.committee.size t i j) (cond-false _ _ _ (and_right _ _ (ne_eqb _ _ (λ e. other (sym (ap (party_of st) (slot_sender at)) ∙ e)))));
-    elsewhere = record {
-      long = rewired_length (silent st p) old.wire;
-      same = λ x past. rewired_same (silent st p) old.wire x (cond-false _ _ _ (and_left _ _ (le-ltb x (used st) past)));
-    };
-  }
+  corrupting st p old = grind (arith, member_with, rewired_length, rewired_none, rewired_same, slot_used, slot_sender)
 
   -- ---- injecting
 
@@ -102,9 +84,7 @@ module _ {B G : Type 0} (a : Meaning B) (g : Grading G) where
     own = slot st.committee.size t (seat_of st i) (seat_of st j)
 
     different : (t' i' j' : ℕ) → Place st t' i' j' → (t' ≢ t) ⊎ ((i' ≢ seat_of st i) ⊎ (j' ≢ seat_of st j)) → slot st.committee.size t' i' j' ≢ own
-    different t' i' j' at' (inl off) e = off (same_slot at' at e).0
-    different t' i' j' at' (inr (inl off)) e = off (same_slot at' at e).1
-    different t' i' j' at' (inr (inr off)) e = off (same_slot at' at e).2
+    different t' i' j' at' apart e = let same = same_slot at' at e in grind arith
 
     pub injecting : Injected a g st i j t m old (after_injecting a g st i j t m old)
     unfolding after_injecting
@@ -137,35 +117,11 @@ module _ {B G : Type 0} (a : Meaning B) (g : Grading G) where
 
   hearing : (st : Stage) (old : State B G) → Heard a g st old (after_hearing a g st old)
   unfolding after_hearing
-  hearing st old =
-      let listens = λ (i : ℕ) (x : Party B G). hears_in a g st i x (inbox_of a g st old.wire i) in
-      record {
-        parties = refl;
-        limit = refl;
-        corrupt = refl;
-        closings = refl;
-        count = refl;
-        wire = refl;
-        everybody = moved_length st old.corrupt listens old.held;
-        listeners = λ p h on. moved_at st old.corrupt listens old.held p h ∙ cond-true _ _ _ on;
-        away = λ p h off. moved_at st old.corrupt listens old.held p h ∙ cond-false _ _ _ off;
-      }
+  hearing st old = grind (arith, moved_length, moved_at)
 
   ending : (old : State B G) → Ends a g old (after_ending a g old)
   unfolding after_ending
-  ending old =
-      let emptied = λ (x : ℕ) (o : Option Message). cond (ltb x (room old.parties)) None o in
-      record {
-        parties = refl;
-        limit = refl;
-        corrupt = refl;
-        closings = refl;
-        count = refl;
-        held = refl;
-        long = rewired_length emptied old.wire;
-        empty = λ x h. rewired_none emptied old.wire x (cond-true _ _ _ (lt-ltb x (room old.parties) h));
-        untouched = λ x h. rewired_same emptied old.wire x (cond-false _ _ _ (le-ltb x (room old.parties) h));
-      }
+  ending old = grind (arith, rewired_length, rewired_none, rewired_same)
 
   -- the next round
   module _ (st : Stage) (old : State B G) (within : used st ≤ room old.parties) (fits : room old.parties ≤ length old.wire) where
@@ -220,7 +176,7 @@ module _ {B G : Type 0} (a : Meaning B) (g : Grading G) where
         record {
           between = between;
           heard = heard;
-          goes_on = next (here a g between) between refl (subst (λ w. room between.parties ≤ length w) (sym heard.wire) (subst (λ n. room n ≤ length old.wire) (sym heard.parties) fits));
+          goes_on = next (here a g between) between refl (rw (heard.wire, heard.parties) fits);
         }
 
     pub opens : (n b : ℕ) (inputs : List ℕ) (wire : List (Option Message)) → room n ≤ length wire

@@ -1,19 +1,17 @@
 -- What an honest party holds is fixed by its input and what it heard.
-use Rattle.std.proofs.Common.{◌≡◌, ℕ, suc, ◌<◌, ◌≤◌, false, eqb, List, [], ◌∷◌, length, get_or, Some, None, Option, sym, ap, ◌∙◌, subst, ⊎_elim, arith}
+use Rattle.std.proofs.Common.{◌≡◌, ℕ, suc, ◌<◌, ◌≤◌, false, List, [], ◌∷◌, length, get_or, Some, Option, sym, ap, ◌∙◌, arith}
 use Rattle.std.proofs.lemmas.List.FromFn.{length-map-range_with_len, get_or-map-range_with_len}
-use Rattle.std.proofs.lemmas.Bool.{cases_Bool, or_parts, cond-true, cond-false}
 use Rattle.message.specs.Members.{member}
 use Rattle.message.proofs.Masks.{member_none}
 use Rattle.protocol.specs.Protocol.{Inbox}
 use Rattle.protocol.specs.Grading.{Grading}
 use Rattle.protocol.specs.Agreement.{Meaning, Sized}
 use Rattle.committee.specs.declared.stages.Stage.{Stage}
-use Rattle.committee.specs.Plan.{sits}
 use Rattle.runs.specs.State.{State, room, stage_at, here, nobody, party}
 use Rattle.runs.specs.Round.{party_of, says_in}
 use Rattle.runs.specs.Wire.{Slots, Place, stands, to_parties}
 use Rattle.runs.specs.Calls.{Call}
-use Rattle.runs.specs.Rules.{Answer, speaks, GoesOn, Heard, Closed, Does, corrupted, injected, closed, decision, signatures, closings, refuses, accepts}
+use Rattle.runs.specs.Rules.{Answer, GoesOn, Heard, Closed, Does, corrupted, injected, closed, decision, signatures, closings, refuses, accepts}
 use Rattle.runs.specs.History.{beginner, seated, opened, History, begins, goes_on, closing_of}
 use Rattle.runs.specs.Life.{at_opening, at_closing, life, box_in, one_more_box, heard}
 use Rattle.runs.proofs.Acting.{opens}
@@ -23,29 +21,17 @@ use Rattle.runs.proofs.Fairness.{history_fair}
 use Rattle.runs.proofs.Histories.{going_keeps, going_corrupt, no_closing}
 
 module _ {B G : Type 0} (a : Meaning B) (g : Grading G) where
-  -- an honest party speaks if it sits in the committee
-  honest_speaks : (st : Stage) (corrupt p : ℕ) → member p corrupt ≡ false → speaks a g st corrupt p ≡ sits st.committee p
-  honest_speaks st corrupt p honest = cond-false _ _ _ honest
-
   -- everybody is still there when a round opens
   going_everybody : (o : Option Stage) (s new : State B G) → GoesOn a g o s new → length new.held ≡ length s.held
-  going_everybody None s new on = ap length on.held
-  going_everybody (Some st) s new on = on.everybody
+  going_everybody o s new on = grind arith
 
   opening_gives : (o : Option Stage) (s new : State B G) → GoesOn a g o s new → (p : ℕ) → p < length s.held → member p s.corrupt ≡ false
       → party a g new p ≡ at_opening a g p o (party a g s p)
-  opening_gives None s new on p h honest = ap (λ x. get_or x p (nobody a g)) on.held
-  opening_gives (Some st) s new on p h honest =
-      let same = honest_speaks st s.corrupt p honest in
-      ⊎_elim (λ e. on.speakers p h (same ∙ e) ∙ sym (cond-true _ _ _ e)) (λ e. on.silent p h (same ∙ e) ∙ sym (cond-false _ _ _ e))
-      (cases_Bool (sits st.committee p))
+  opening_gives o s new on p h honest = grind arith
 
   closing_gives : (st : Stage) (s new : State B G) → Heard a g st s new → (p : ℕ) → p < length s.held → member p s.corrupt ≡ false
       → party a g new p ≡ at_closing a g p (Some st) (box_in a g (Some st) s.wire p) (party a g s p)
-  closing_gives st s new on p h honest =
-      let same = honest_speaks st s.corrupt p honest in
-      ⊎_elim (λ e. on.listeners p h (same ∙ e) ∙ sym (cond-true _ _ _ e)) (λ e. on.away p h (same ∙ e) ∙ sym (cond-false _ _ _ e))
-      (cases_Bool (sits st.committee p))
+  closing_gives st s new on p h honest = grind arith
 
   -- what an honest party holds after so many closings
   record Lives (n p input : ℕ) (boxes : List Inbox) (s : State B G) : Type 0 where
@@ -55,16 +41,6 @@ module _ {B G : Type 0} (a : Meaning B) (g : Grading G) where
     holds : member p s.corrupt ≡ false → party a g s p ≡ life a g n p input boxes
 
   module _ (n p input : ℕ) (below : p < n) where
-    -- a call that moves nobody
-    lives_on : (boxes : List Inbox) (s new : State B G) → new.parties ≡ s.parties → new.held ≡ s.held → new.closings ≡ s.closings
-        → (member p new.corrupt ≡ false → member p s.corrupt ≡ false) → Lives n p input boxes s → Lives n p input boxes new
-    lives_on boxes s new same_parties same_held same_closings was lives = record {
-      parties = same_parties ∙ lives.parties;
-      everybody = ap length same_held ∙ lives.everybody;
-      rounds = lives.rounds ∙ sym same_closings;
-      holds = λ honest. ap (λ x. get_or x p (nobody a g)) same_held ∙ lives.holds (was honest);
-    }
-
     lives_closing : (boxes : List Inbox) (st : Stage) (s new : State B G) → here a g s ≡ Some st → Closed a g st s new → Lives n p input boxes s
         → Lives n p input (box_in a g (here a g s) s.wire p ∷ boxes) new
     unfolding life
@@ -95,10 +71,8 @@ module _ {B G : Type 0} (a : Meaning B) (g : Grading G) where
 
     lives_doing : (boxes : List Inbox) {s new : State B G} {c : Call} {x : Answer} → Does a g s c x new → Lives n p input boxes s
         → Lives n p input (one_more_box a g (closing_of c x) (box_in a g (here a g s) s.wire p) boxes) new
-    lives_doing boxes {s = s} {new = new} (corrupted {p = q} _ d) lives =
-        lives_on boxes s new d.parties d.held d.closings (λ honest. (or_parts (eqb p q) (member p s.corrupt) (sym (d.corrupt p) ∙ honest)).1) lives
-    lives_doing boxes {s = s} {new = new} (injected _ d) lives =
-        lives_on boxes s new d.parties d.held d.closings (λ honest. ap (member p) (sym d.corrupt) ∙ honest) lives
+    lives_doing boxes (corrupted _ d) lives = grind arith
+    lives_doing boxes (injected _ d) lives = grind arith
     lives_doing boxes {s = s} {new = new} (closed {st = st} now d) lives = lives_closing boxes st s new now d lives
     lives_doing boxes decision lives = lives
     lives_doing boxes signatures lives = lives
@@ -129,7 +103,7 @@ module _ {B G : Type 0} (a : Meaning B) (g : Grading G) where
     unfolding heard
     history_lives begins = opened_lives
     history_lives (goes_on {s = s} {c = c} h (refuses {k = k} _ _)) =
-        subst (λ m. Lives n p (get_or inputs p 0) (one_more_box a g m (box_in a g (here a g s) s.wire p) (heard a g h p)) s) (sym (no_closing a g c k)) (history_lives h)
+        rw (no_closing a g c k) (history_lives h)
     history_lives (goes_on h (accepts _ d)) = lives_doing n p (get_or inputs p 0) below (heard a g h p) d (history_lives h)
 
     pub settles_as_prescribed : {events : List (Call × Answer)} {s : State B G} (h : History a g (opened a g n b inputs wire) events s)

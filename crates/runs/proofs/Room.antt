@@ -1,13 +1,14 @@
 -- What histories leave alone: the slots beyond the room, and all but b parties.
-use Rattle.std.proofs.Common.{◌≡◌, ℕ, ◌+◌, ◌<◌, ◌≤◌, true, ◌||◌, eqb, List, length, get_or, Some, None, Option, sym, refl, ap, ◌∙◌, subst, ⊎_elim, arith}
-use Rattle.std.proofs.lemmas.Bool.{cases_lt, true≢false, both_ways, eqb-true, or_cases}
+use Rattle.std.proofs.Common.{◌≡◌, ℕ, ◌+◌, ◌<◌, ◌≤◌, true, ◌||◌, eqb, List, length, get_or, Some, None, Option, sym, refl, ◌∙◌, subst, ⊎_elim, arith}
+use Rattle.std.proofs.Math.Nat.{lt_of_not-le}
+use Rattle.std.proofs.lemmas.Bool.{eqb-true, or_cases}
 use Rattle.message.specs.Members.{member, size, Holds}
 use Rattle.message.proofs.Counting.{count_same, count_or_and, count_one, count_none}
 use Rattle.message.proofs.Masks.{member_none}
 use Rattle.protocol.specs.Grading.{Grading}
 use Rattle.protocol.specs.Agreement.{Meaning, Sized}
 use Rattle.committee.specs.declared.stages.Stage.{Stage}
-use Rattle.runs.specs.State.{State, room, stage_at, here}
+use Rattle.runs.specs.State.{State, room, here}
 use Rattle.runs.specs.Wire.{Slots, used, ElsewhereSame}
 use Rattle.runs.specs.Calls.{Call, corrupts, Over, Applies, no_party_corrupts, limit_reached}
 use Rattle.runs.specs.Rules.{Answer, GoesOn, Closed, Does, corrupted, injected, closed, decision, signatures, closings, refuses, accepts}
@@ -35,56 +36,32 @@ module _ {B G : Type 0} (a : Meaning B) (g : Grading G) (sized : Sized a) where
     untouched : (x : ℕ) → room s.parties ≤ x → get_or new.wire x None ≡ get_or s.wire x None
 
   going_on_keeps : (o : Option Stage) (s new : State B G) → here a g s ≡ o → GoesOn a g o s new → KeepsWire s new
-  going_on_keeps None s new _ on = record { long = on.long; untouched = on.untouched }
-  going_on_keeps (Some st) s new now on =
-      let fits = fits_here s st now in record { long = on.long; untouched = λ x past. on.untouched x (omega (arith, fits, past)) past }
+  going_on_keeps o s new now on = grind (arith, fits_here)
 
   closing_keeps_wire : (st : Stage) (s new : State B G) → Closed a g st s new → KeepsWire s new
-  closing_keeps_wire st s new shut =
-      let heard = shut.heard in
-      let next = going_on_keeps (here a g shut.between) shut.between new refl shut.goes_on in
-      record {
-        long = next.long ∙ ap length heard.wire;
-        untouched = λ x past. next.untouched x (subst (λ n. room n ≤ x) (sym heard.parties) past) ∙ ap (λ w. get_or w x None) heard.wire;
-      }
+  closing_keeps_wire st s new shut = grind (arith, going_on_keeps)
 
   elsewhere_keeps : (s new : State B G) (st : Stage) → here a g s ≡ Some st → ElsewhereSame st s.wire new.wire → KeepsWire s new
-  elsewhere_keeps s new st now same =
-      let fits = fits_here s st now in record { long = same.long; untouched = λ x past. same.same x (omega (arith, fits, past)) }
-
-  same_wire : (s : State B G) → KeepsWire s s
-  same_wire s = record { long = refl; untouched = λ _ _. refl }
+  elsewhere_keeps s new st now same = grind (arith, fits_here)
 
   doing_keeps_wire : {s new : State B G} {c : Call} {x : Answer} → Does a g s c x new → KeepsWire s new
   doing_keeps_wire {s = s} {new = new} (corrupted {st = st} now d) = elsewhere_keeps s new st now d.elsewhere
   doing_keeps_wire {s = s} {new = new} (injected {st = st} now d) = elsewhere_keeps s new st now d.elsewhere
   doing_keeps_wire {s = s} {new = new} (closed {st = st} _ d) = closing_keeps_wire st s new d
-  doing_keeps_wire {s = s} decision = same_wire s
-  doing_keeps_wire {s = s} signatures = same_wire s
-  doing_keeps_wire {s = s} closings = same_wire s
+  doing_keeps_wire decision = grind arith
+  doing_keeps_wire signatures = grind arith
+  doing_keeps_wire closings = grind arith
 
   -- ---- empty at the end
 
   abbrev Empty : State B G → Type 0
   Empty s = (x : ℕ) → x < room s.parties → get_or s.wire x None ≡ None
 
-  -- a call that closes nothing leaves an open round open
-  still_open : (s new : State B G) (st : Stage) → here a g s ≡ Some st → new.parties ≡ s.parties → new.closings ≡ s.closings → Over a g new → ⊥
-  still_open s new st now n t over =
-      let same : stage_at a g new.parties new.closings ≡ stage_at a g s.parties s.closings = rw (n, t) in
-      true≢false cc
-
   going_on_empties : (o : Option Stage) (s new : State B G) → here a g s ≡ o → GoesOn a g o s new → Over a g new → Empty new
-  going_on_empties None s new _ on _ = λ x h. on.empty x (subst (λ n. x < room n) on.parties h)
-  going_on_empties (Some st) s new now on over = absurd (still_open s new st now on.parties on.closings over)
+  going_on_empties o s new now on over = grind arith
 
   doing_empties : {s new : State B G} {c : Call} {x : Answer} → Does a g s c x new → (Over a g s → Empty s) → Over a g new → Empty new
-  doing_empties {s = s} {new = new} (corrupted {st = st} now d) _ over = absurd (still_open s new st now d.parties d.closings over)
-  doing_empties {s = s} {new = new} (injected {st = st} now d) _ over = absurd (still_open s new st now d.parties d.closings over)
-  doing_empties {new = new} (closed _ d) _ over = going_on_empties (here a g d.between) d.between new refl d.goes_on over
-  doing_empties decision empty over = empty over
-  doing_empties signatures empty over = empty over
-  doing_empties closings empty over = empty over
+  doing_empties d empty over = grind arith
 
   -- ---- who is corrupt
 
@@ -94,28 +71,22 @@ module _ {B G : Type 0} (a : Meaning B) (g : Grading G) (sized : Sized a) where
 
   nobody_corrupt : (n b : ℕ) → Few n b 0
   nobody_corrupt n b =
-      let none = count_none (λ p. member p 0) n (λ p _. member_none p) in
-      record { parties = λ p on. absurd (both_ways (member p 0) (member_none p) on); limit = omega (arith, none) }
+      grind (arith, count_none, member_none)
 
   few_with : (s : State B G) (p corrupt : ℕ) → ((k : ℕ) → Applies a g s (corrupts p) k → ⊥) → Holds corrupt (λ q. eqb q p || member q s.corrupt)
       → Few s.parties s.limit s.corrupt → Few s.parties s.limit corrupt
   few_with s p corrupt none holds few = record {
-    parties = λ q on. ⊎_elim (λ e. subst (λ r. r < s.parties) (sym (eqb-true q p e)) a_party) (λ old. few.parties q old) (or_cases (eqb q p) (member q s.corrupt) (sym (holds q) ∙ on));
-    limit = let more = one_more s.parties p s.corrupt corrupt holds in omega (arith, more, some_left);
+    parties = λ q on.
+        ⊎_elim (λ e. rw (eqb-true q p e) (lt_of_not-le (λ past. none 5 (no_party_corrupts past)))) (few.parties q)
+        (or_cases (eqb q p) (member q s.corrupt) (sym (holds q) ∙ on));
+    limit = let some_left = lt_of_not-le (λ full. none 22 (limit_reached full)) in omega (arith, one_more s.parties p s.corrupt corrupt holds, some_left);
   }
-    where
-      a_party : p < s.parties
-      a_party = ⊎_elim (λ h. h) (λ past. absurd (none 5 (no_party_corrupts past))) (cases_lt p s.parties)
-
-      some_left : size s.parties s.corrupt < s.limit
-      some_left = ⊎_elim (λ h. h) (λ full. absurd (none 22 (limit_reached full))) (cases_lt (size s.parties s.corrupt) s.limit)
 
   doing_few : {s new : State B G} {c : Call} {x : Answer} → ((k : ℕ) → Applies a g s c k → ⊥) → Does a g s c x new
       → Few s.parties s.limit s.corrupt → Few s.parties s.limit new.corrupt
   doing_few {s = s} {new = new} none (corrupted {p = p} _ d) few = few_with s p new.corrupt none d.corrupt few
-  doing_few {s = s} none (injected _ d) few = subst (Few s.parties s.limit) (sym d.corrupt) few
-  doing_few {s = s} {new = new} none (closed _ d) few =
-      subst (Few s.parties s.limit) (sym (going_corrupt a g (here a g d.between) d.between new d.goes_on ∙ d.heard.corrupt)) few
+  doing_few none (injected _ d) few = grind arith
+  doing_few none (closed _ d) few = grind (arith, going_corrupt)
   doing_few none decision few = few
   doing_few none signatures few = few
   doing_few none closings few = few
@@ -140,7 +111,7 @@ module _ {B G : Type 0} (a : Meaning B) (g : Grading G) (sized : Sized a) where
           within_limit = few.limit;
           long = kept.long;
           untouched = kept.untouched;
-          empty = λ over x h. going_on_empties o s new refl on over x (subst (λ k. x < room k) (sym same.parties) h);
+          empty = λ over x h. going_on_empties o s new refl on over x (rw same.parties h);
         }
 
     pub history_keeps : (events : List (Call × Answer)) (s : State B G) → History a g (opened a g n b inputs wire) events s → KeepsToItsRoom a g n b wire s
@@ -150,16 +121,14 @@ module _ {B G : Type 0} (a : Meaning B) (g : Grading G) (sized : Sized a) where
         let old = history_keeps before s h in
         let kept = doing_keeps_wire d in
         let same = doing_keeps a g d in
-        let few = doing_few none d (subst (λ k. Few k s.limit s.corrupt) (sym old.parties) (subst (λ k. Few n k s.corrupt) (sym old.limit) (record { parties = old.corrupt_parties; limit = old.within_limit }))) in
-        let few_now = subst (λ k. Few n k new.corrupt) old.limit (subst (λ k. Few k s.limit new.corrupt) old.parties few) in
+        let few = doing_few none d (rw (old.parties, old.limit) (record { parties = old.corrupt_parties; limit = old.within_limit })) in
+        let few_now : Few n b new.corrupt = rw (← old.parties, ← old.limit) few in
         record {
           parties = same.parties ∙ old.parties;
           limit = same.limit ∙ old.limit;
           corrupt_parties = few_now.parties;
           within_limit = few_now.limit;
           long = kept.long ∙ old.long;
-          untouched = λ x past. kept.untouched x (subst (λ k. room k ≤ x) (sym old.parties) past) ∙ old.untouched x past;
-          empty = λ over x h.
-              doing_empties d (λ was y below. old.empty was y (subst (λ k. y < room k) old.parties below)) over x
-              (subst (λ k. x < room k) (sym (same.parties ∙ old.parties)) h);
+          untouched = λ x past. kept.untouched x (rw old.parties past) ∙ old.untouched x past;
+          empty = λ over x h. doing_empties d (λ was y below. old.empty was y (rw old.parties at below)) over x (rw (same.parties, old.parties) h);
         }

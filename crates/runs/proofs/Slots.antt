@@ -1,8 +1,9 @@
 -- Every slot of the open round is a place, and every place has its own slot.
-use Rattle.std.proofs.Common.{◌≡◌, ℕ, zero, suc, ◌+◌, ◌*◌, ◌/◌, ◌%◌, ◌<◌, ◌≤◌, length, get_or, None, sym, ap, ◌∙◌, ⊎_elim, arith}
+use Rattle.std.proofs.Common.{◌≡◌, ℕ, ◌+◌, ◌*◌, ◌/◌, ◌%◌, ◌<◌, ◌≤◌, ◌≢◌, ◌⊎◌, length, get_or, None, sym, ap, ◌∙◌, inl, inr, ⊎_elim, arith}
 use Rattle.std.proofs.lemmas.Nat.{div-add-mod', div_below, mod_below}
 use Rattle.std.proofs.lemmas.List.{ext_get_or}
-use Rattle.std.proofs.lemmas.Bool.{cases_lt}
+use Rattle.std.proofs.lemmas.Bool.{cases_eq, cases_lt}
+use Rattle.std.proofs.Math.Logic.{⊎_map}
 use Rattle.committee.specs.declared.stages.Stage.{Stage}
 use Rattle.runs.specs.Round.{work, topics_for}
 use Rattle.runs.specs.Wire.{Slots, slot, used, Place, stands}
@@ -16,8 +17,7 @@ pub record At (st : Stage) (x : ℕ) : Type 0 where
   pub is : slot st.committee.size topic sender receiver ≡ x
 
 some_seats : (T s x : ℕ) → x < T * s * s → 0 < s
-some_seats T zero x h = absurd (omega arith)
-some_seats T (suc s) x h = omega arith
+some_seats T s x h = grind arith
 
 pub place_of : (st : Stage) (x : ℕ) → x < used st → At st x
 place_of st x h =
@@ -36,6 +36,14 @@ place_of st x h =
       };
       is = ap (λ n. n * s + x % s) (div-add-mod' (x / st.committee.size) st.committee.size) ∙ div-add-mod' x st.committee.size;
     }
+
+-- a place is another one, or differs in its topic, its sender or its receiver
+pub same_or_apart : (t i j t' i' j' : ℕ) → ((t' ≡ t) × (i' ≡ i) × (j' ≡ j)) ⊎ ((t' ≢ t) ⊎ ((i' ≢ i) ⊎ (j' ≢ j)))
+same_or_apart t i j t' i' j' =
+    ⊎_elim
+    (λ et. ⊎_elim (λ ei. ⊎_map (λ ej. (et, ei, ej)) (λ off. inr (inr off)) (cases_eq j' j)) (λ off. inr (inr (inl off))) (cases_eq i' i))
+    (λ off. inr (inl off))
+    (cases_eq t' t)
 
 -- wires are the same if the same stands in every place of the round and elsewhere
 pub same_wires : (st : Stage) (v w : Slots) → length v ≡ length w

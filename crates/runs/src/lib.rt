@@ -5,59 +5,43 @@
 ghost use Rattle.runs.specs.Theorems.{CallsHaveOneOutcome, OpeningsHaveOneOutcome, OpeningsFollowTheRules, OverAfterThePlan, HistoriesKeepToTheirRoom, CountsWhatWasSent, SendsAsPrescribed, SettlesAsPrescribed};
 
 // The rules allow exactly one outcome of every call in every state, and it can be computed.
-pub fn calls_have_one_outcome<B, G>() -> u8
+pub fn calls_have_one_outcome<B, G>()
     ensures { CallsHaveOneOutcome B G }
-{
-    0
-}
+{}
 
 // The rules allow exactly one outcome of every opening: refused by the least number that prevents it, or an execution.
-pub fn openings_have_one_outcome<B, G>() -> u8
+pub fn openings_have_one_outcome<B, G>()
     ensures { OpeningsHaveOneOutcome B G }
-{
-    0
-}
+{}
 
 // In an opened execution the first round of the plan is open, as the rules say of every round, whatever the wire held.
-pub fn openings_follow_the_rules<B, G>() -> u8
+pub fn openings_follow_the_rules<B, G>()
     ensures { OpeningsFollowTheRules B G }
-{
-    0
-}
+{}
 
 // In every history an execution is over exactly when all rounds of the plan have closed, and then every honest party has a decision.
-pub fn over_after_the_plan<B, G>() -> u8
+pub fn over_after_the_plan<B, G>()
     ensures { OverAfterThePlan B G }
-{
-    0
-}
+{}
 
 // In every history at most as many parties are corrupt as may be, slots that do not belong to the execution keep what they held, and the
 // others are empty when it is over.
-pub fn histories_keep_to_their_room<B, G>() -> u8
+pub fn histories_keep_to_their_room<B, G>()
     ensures { HistoriesKeepToTheirRoom B G }
-{
-    0
-}
+{}
 
 // In every history the counter is the signatures on what stood on the wire when rounds opened.
-pub fn counts_what_was_sent<B, G>() -> u8
+pub fn counts_what_was_sent<B, G>()
     ensures { CountsWhatWasSent B G }
-{
-    0
-}
+{}
 
 // In every history, in every open round, there stands from an honest party what it has to say, to all seats alike; from a corrupt one nothing,
 // or what could be injected; and nothing else.
-pub fn sends_as_prescribed<B, G>() -> u8
+pub fn sends_as_prescribed<B, G>()
     ensures { SendsAsPrescribed B G }
-{
-    0
-}
+{}
 
 // In every history an honest party holds what its input and what it heard give, day and grade at every depth, its decision among them.
-pub fn settles_as_prescribed<B, G>() -> u8
+pub fn settles_as_prescribed<B, G>()
     ensures { SettlesAsPrescribed B G }
-{
-    0
-}
+{}

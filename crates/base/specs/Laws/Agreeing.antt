@@ -6,7 +6,8 @@ use Rattle.std.specs.List.{range_with_len}
 use Rattle.std.specs.Option.{unwrap_or}
 use Rattle.std.proofs.lemmas.List.FromFn.{get_or-map-range_with_len, length-map-range_with_len}
 use Rattle.std.proofs.lemmas.List.{get_or_past}
-use Rattle.std.proofs.lemmas.Bool.{cases_Bool, cases_lt, both_ways, lt-ltb, le-ltb, not-true, cond-true, cond-false}
+use Rattle.std.proofs.lemmas.Bool.{cases_Bool, cases_lt, both_ways, lt-ltb, not-true, cond-true}
+use Rattle.std.proofs.lemmas.Bool.Decides.{nat_tests}
 use Rattle.message.specs.Count.{count}
 use Rattle.message.specs.Tally.{Day, names, entry, tally}
 use Rattle.message.proofs.Counting.{count_append, count_both, count_meet, count_mono, count_none, count_not, count_same}
@@ -20,7 +21,7 @@ use Rattle.base.specs.Relaying.{alone, both, only_day, seen_under, entry_under, 
 use Rattle.base.specs.Laws.Gathering.{sees_same, same_seen}
 use Rattle.base.specs.Laws.Leading.{most_named_means}
 use Rattle.base.specs.Laws.Placing.{Place, due_first, due_second, formed_place, topic_signs}
-use Rattle.base.specs.Laws.Relaying.{P, its_seats, its_day, says_is, says_input_or_heard, said_place, Heard, sees, entry_heard, heard_place, Origin, origin, heard_day}
+use Rattle.base.specs.Laws.Relaying.{P, its_seats, its_day, says_is, says_input_or_heard, said_place, Heard, heard_by, sees, entry_heard, heard_place, Origin, origin, heard_day}
 
 -- ---- one seat's entries
 
@@ -30,7 +31,11 @@ entry_at s t h = get_or-map-range_with_len (entry_under s) 0 4 t t None h (zero-
 
 -- past the last seat there is no entry
 none_past : (s : Relay) (t : ℕ) → s.seats ≤ t → entry_under s t ≡ None
-none_past s t h = cond-false (nat_lt t s.seats) (only_day (seen_under s t)) None (le-ltb t s.seats h)
+none_past s t h = grind (arith, nat_tests)
+
+-- a seat has the one day that is seen under it for its entry
+entry_seen : (s : Relay) (t v : ℕ) → t < s.seats → seen_under s t ≡ One v → entry_under s t ≡ Some v
+entry_seen s t v h e = cond-true (nat_lt t s.seats) (only_day (seen_under s t)) None (lt-ltb t s.seats h) ∙ ap only_day e
 
 -- so only the seats' entries are counted
 tally_seats : (s : Relay) (v : ℕ) → s.seats ≤ 4 → tally (entries_of s) v ≡ count (λ t. names v (entry_under s t)) s.seats
@@ -160,10 +165,7 @@ module _ (n : ℕ) (tr : Trace) (few : suc (suc n) ≤ 4) (play : Play P (suc (s
           (it, λ u other. once t i u v ht hi other it)
 
       holds : entry_under (state P k tr 1 i) t ≡ Some v
-      holds =
-          cond-true (nat_lt t (state P k tr 1 i).seats) (only_day (seen_under (state P k tr 1 i) t)) None
-          (lt-ltb t (state P k tr 1 i).seats (omega (arith, its_seats k tr 1 i)))
-          ∙ ap only_day seen
+      holds = entry_seen (state P k tr 1 i) t v (omega (arith, its_seats k tr 1 i)) seen
 
   module _ (minority : 2 * count (tr.corrupt 2) k < k) where
     -- at most one seat is corrupt
@@ -185,15 +187,7 @@ module _ (n : ℕ) (tr : Trace) (few : suc (suc n) ≤ 4) (play : Play P (suc (s
         go : Place k it.round t it.sender it.message.signers.mask → Heard k tr 2 t j v
         go (inl x) =
             passes_on t i j v ht hi hj apart good
-            (record {
-              round = it.round;
-              sender = it.sender;
-              message = it.message;
-              in_time = omega (arith, x.round);
-              a_seat = it.a_seat;
-              arrived = it.arrived;
-              on_day = it.on_day;
-            })
+            (heard_by k tr 2 1 t i v it (omega (arith, x.round)))
         go (inr x) = record {
           round = 1;
           sender = it.sender;
@@ -237,9 +231,7 @@ module _ (n : ℕ) (tr : Trace) (few : suc (suc n) ≤ 4) (play : Play P (suc (s
   -- the entry of an honest seat is its input
   entry_of_honest : (t i : ℕ) → t < k → i < k → tr.corrupt 2 t ≡ false → entry_under (state P k tr 2 i) t ≡ Some (tr.input t)
   entry_of_honest t i ht hi good =
-      cond-true (nat_lt t (state P k tr 2 i).seats) (only_day (seen_under (state P k tr 2 i) t)) None
-      (lt-ltb t (state P k tr 2 i).seats (omega (arith, its_seats k tr 2 i)))
-      ∙ ap only_day (seen_of_honest t i ht hi good)
+      entry_seen (state P k tr 2 i) t (tr.input t) (omega (arith, its_seats k tr 2 i)) (seen_of_honest t i ht hi good)
 
   -- so an honest seat answers a day of its entries, since its own is one
   chosen : (i : ℕ) → i < k → tr.corrupt 2 i ≡ false → (u : ℕ) × (most_named (entries_of (state P k tr 2 i)) ≡ Some u)
@@ -261,7 +253,7 @@ module _ (n : ℕ) (tr : Trace) (few : suc (suc n) ≤ 4) (play : Play P (suc (s
           heard_day k tr few play 2 t i v (omega arith) it.0 hi it.1
       go v t e (inr h) =
           let none = get_or_past (entries_of (state P k tr 2 i)) t None (omega (arith, length-map-range_with_len (entry_under (state P k tr 2 i)) 0 4)) in
-          absurd (let z : ◌≡◌ {A = ℕ} 0 1 = cc in omega arith)
+          absurd (cc)
 
   module _ (minority : 2 * count (tr.corrupt 2) k < k) where
     one_answer : (i j : ℕ) → i < k → j < k → tr.corrupt 2 i ≡ false → tr.corrupt 2 j ≡ false → answer relays k tr i ≡ answer relays k tr j

@@ -1,11 +1,16 @@
 -- What is folded over a list of entries is about the days that they name.
-use Rattle.std.specs.Prelude.{◌≡◌, ℕ, zero, suc, ◌⊎◌, List, [], ◌∷◌, Some, fold, Option}
-use Rattle.std.proofs.Common.{inl, inr, arith}
+use Rattle.std.specs.Prelude.{◌≡◌, ℕ, zero, suc, ◌⊎◌, List, [], ◌∷◌, Some, None, fold, Option}
+use Rattle.std.proofs.Common.{inl, inr}
 use Rattle.message.specs.Tally.{entry}
 
 -- some entry names the day
 abbrev pub Named : List (Option ℕ) → ℕ → Type 0
 Named xs v = (j : ℕ) × (entry xs j ≡ Some v)
+
+-- an entry that names no day adds none
+pub no_more : (N : ℕ → Type 0) (v : ℕ) → N v ⊎ (None ≡ Some v) → N v
+no_more N v (inl n) = n
+no_more N v (inr e) = absurd (cc)
 
 -- `About N s` says that s is about just the days N. If one step takes one more entry in, a fold takes in all.
 module _ {S : Type 0} (f : S → Option ℕ → S) (About : (ℕ → Type 0) → S → Type 0)
@@ -16,7 +21,7 @@ module _ {S : Type 0} (f : S → Option ℕ → S) (About : (ℕ → Type 0) →
     where
       none : (v : ℕ) → N v ⊎ Named [] v → N v
       none v (inl n) = n
-      none v (inr at) = let e = at.1 in absurd (let z : ◌≡◌ {A = ℕ} 0 1 = cc in omega arith)
+      none v (inr at) = let e = at.1 in absurd (cc)
   about_all N s (x ∷ xs) a =
       same (λ v. (N v ⊎ (x ≡ Some v)) ⊎ Named xs v) (λ v. N v ⊎ Named (x ∷ xs) v) (fold f (f s x) xs) to from
       (about_all (λ v. N v ⊎ (x ≡ Some v)) (f s x) xs (step N s x a))

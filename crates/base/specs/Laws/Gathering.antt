@@ -1,11 +1,11 @@
 -- What has been seen under a topic: nothing, one day or several, of the days that were named.
 use Rattle.std.specs.Prelude.{◌≡◌, ℕ, ◌⊎◌, List, Some, None, Option, ◌==◌, ◌≢◌, refl}
-use Rattle.std.proofs.Common.{sym, ◌∙◌, ap, inl, inr, arith}
+use Rattle.std.proofs.Common.{sym, ◌∙◌, ap, inl, inr}
 use Rattle.std.proofs.lemmas.Bool.{cond_both, eqb-true, eqb-false}
 use Rattle.base.specs.declared.relays.Seen.{Seen}
 use Rattle.base.specs.declared.relays.Seen.TheVariants.{Nothing, One, Several}
 use Rattle.base.specs.Relaying.{add, gather, only_day}
-use Rattle.base.specs.Laws.Folding.{Named, about_all}
+use Rattle.base.specs.Laws.Folding.{Named, no_more, about_all}
 
 -- just the days N have been seen
 abbrev pub Sees : (ℕ → Type 0) → Seen → Type 0
@@ -20,11 +20,7 @@ sees_same N N' Several to from two = (two.0, two.1, to two.0 two.2, to two.1 two
 
 -- one day more
 sees_with : (N : ℕ → Type 0) (s : Seen) (o : Option ℕ) → Sees N s → Sees (λ v. N v ⊎ (o ≡ Some v)) (add s o)
-sees_with N s None sees = sees_same N (λ v. N v ⊎ (None ≡ Some v)) s (λ v n. inl n) from sees
-  where
-    from : (v : ℕ) → N v ⊎ (None ≡ Some v) → N v
-    from v (inl n) = n
-    from v (inr e) = absurd (let z : ◌≡◌ {A = ℕ} 0 1 = cc in omega arith)
+sees_with N s None sees = sees_same N (λ v. N v ⊎ (None ≡ Some v)) s (λ v n. inl n) (no_more N) sees
 sees_with N Nothing (Some w) none = (inr refl, only)
   where
     only : (v : ℕ) → N v ⊎ (Some w ≡ Some v) → v ≡ w
@@ -58,6 +54,6 @@ same_seen N Several Several a b = refl
 
 -- the one day has been seen
 pub only_seen : (N : ℕ → Type 0) (s : Seen) (v : ℕ) → Sees N s → only_day s ≡ Some v → N v
-only_seen N Nothing v sees e = absurd (let z : ◌≡◌ {A = ℕ} 0 1 = cc in omega arith)
+only_seen N Nothing v sees e = absurd (cc)
 only_seen N (One u) v sees e = let same : u ≡ v = cc in rw (sym same) sees.0
-only_seen N Several v sees e = absurd (let z : ◌≡◌ {A = ℕ} 0 1 = cc in omega arith)
+only_seen N Several v sees e = absurd (cc)

@@ -1,11 +1,12 @@
 -- The day that most entries name.
-use Rattle.std.specs.Prelude.{◌≡◌, ℕ, ◌<◌, ◌≤◌, true, false, ◌&&◌, ◌⊎◌, List, Some, None, Option, ◌==◌, nat_lt, refl}
+use Rattle.std.specs.Prelude.{◌≡◌, ℕ, ◌<◌, ◌≤◌, true, false, ◌⊎◌, List, Some, None, Option, refl}
 use Rattle.std.proofs.Common.{subst, inl, inr, arith}
-use Rattle.std.proofs.lemmas.Bool.{cases_lt, or_cases, or_parts, and_parts, and_cases, ltb-true, ltb-false, lt-ltb, eqb-true, eqb-false, cond_both}
+use Rattle.std.proofs.lemmas.Bool.{cases_lt, cond_both}
+use Rattle.std.proofs.lemmas.Bool.Decides.{nat_tests}
 use Rattle.message.specs.Tally.{before, tally}
 use Rattle.message.proofs.Tallying.{named_somewhere, counted}
 use Rattle.base.specs.Relaying.{ahead, leader, most_named, MostNamed}
-use Rattle.base.specs.Laws.Folding.{Named, about_all}
+use Rattle.base.specs.Laws.Folding.{Named, no_more, about_all}
 
 module _ (entries : List (Option ℕ)) where
   -- day d is named at least as often as u, and more often if u comes before it
@@ -13,36 +14,16 @@ module _ (entries : List (Option ℕ)) where
   Leads d u = (tally entries u ≤ tally entries d) × (before u d ≡ true → tally entries u < tally entries d)
 
   itself : (d : ℕ) → Leads d d
-  itself d = (omega arith, λ e. absurd (omega (arith, ltb-true d d e)))
+  itself d = grind (arith, nat_tests)
 
   leads_on : (d e u : ℕ) → Leads d e → Leads e u → Leads d u
-  leads_on d e u a b = (omega (arith, a.0, b.0), λ h. go (ltb-true u d h) (cases_lt u e))
-    where
-      go : u < d → (u < e) ⊎ (e ≤ u) → tally entries u < tally entries d
-      go h (inl lower) = omega (arith, a.0, b.1 (lt-ltb u e lower))
-      go h (inr higher) = let low : e < d = omega arith in omega (arith, b.0, a.1 (lt-ltb e d low))
+  leads_on d e u a b = grind (arith, nat_tests)
 
   ahead_leads : (u v : ℕ) → ahead entries u v ≡ true → Leads u v
-  ahead_leads u v e = go (or_cases (nat_lt (tally entries v) (tally entries u)) (tally entries v == tally entries u && before u v) e)
-    where
-      go : (nat_lt (tally entries v) (tally entries u) ≡ true) ⊎ ((tally entries v == tally entries u && before u v) ≡ true) → Leads u v
-      go (inl more) = let less = ltb-true (tally entries v) (tally entries u) more in (omega arith, λ _. less)
-      go (inr tie) =
-          let parts = and_parts (tally entries v == tally entries u) (before u v) tie in
-          (omega (arith, eqb-true (tally entries v) (tally entries u) parts.0), λ h. absurd (omega (arith, ltb-true u v parts.1, ltb-true v u h)))
+  ahead_leads u v e = grind (arith, nat_tests)
 
   behind_leads : (u v : ℕ) → ahead entries u v ≡ false → Leads v u
-  behind_leads u v e =
-      let parts = or_parts (nat_lt (tally entries v) (tally entries u)) (tally entries v == tally entries u && before u v) e in
-      go (ltb-false (tally entries v) (tally entries u) parts.0) (and_cases (tally entries v == tally entries u) (before u v) parts.1)
-    where
-      go : tally entries u ≤ tally entries v → ((tally entries v == tally entries u) ≡ false) ⊎ (before u v ≡ false) → Leads v u
-      go few (inl off) = let apart = eqb-false (tally entries v) (tally entries u) off in (few, λ h. less (cases_lt (tally entries u) (tally entries v)))
-        where
-          less : (tally entries u < tally entries v) ⊎ (tally entries v ≤ tally entries u) → tally entries u < tally entries v
-          less (inl h) = h
-          less (inr h) = absurd (eqb-false (tally entries v) (tally entries u) off (omega arith))
-      go few (inr off) = (few, λ h. absurd (omega (arith, ltb-false u v off, ltb-true u v h)))
+  behind_leads u v e = grind (arith, nat_tests)
 
   -- of the days N this one leads all; or there is none
   abbrev Best : (ℕ → Type 0) → Option ℕ → Type 0
@@ -55,11 +36,7 @@ module _ (entries : List (Option ℕ)) where
 
   -- one entry more
   best_with : (N : ℕ → Type 0) (o x : Option ℕ) → Best N o → Best (λ u. N u ⊎ (x ≡ Some u)) (leader entries o x)
-  best_with N o None best = best_same N (λ u. N u ⊎ (None ≡ Some u)) o (λ u n. inl n) from best
-    where
-      from : (u : ℕ) → N u ⊎ (None ≡ Some u) → N u
-      from u (inl n) = n
-      from u (inr e) = absurd (let z : ◌≡◌ {A = ℕ} 0 1 = cc in omega arith)
+  best_with N o None best = best_same N (λ u. N u ⊎ (None ≡ Some u)) o (λ u n. inl n) (no_more N) best
   best_with N None (Some w) none = (inr refl, leads)
     where
       leads : (u : ℕ) → N u ⊎ (Some w ≡ Some u) → Leads w u

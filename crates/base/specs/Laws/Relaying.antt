@@ -84,18 +84,22 @@ module _ (k : ℕ) (tr : Trace) where
       side (inr h) =
           let none = get_or_past (days_in r t i) at.0 None (omega (arith, few_entries k t (tr.inbox (suc r) i))) in
           let some = at.1 in
-          absurd (let z : ◌≡◌ {A = ℕ} 0 1 = cc in omega arith)
+          absurd (cc)
 
-  pub later : (r r' t i v : ℕ) → r ≤ r' → Heard r t i v → Heard r' t i v
-  later r r' t i v h it = record {
+  -- what has been heard has been heard in as many rounds as reach past its own
+  pub heard_by : (r r' t i v : ℕ) (it : Heard r t i v) → it.round < r' → Heard r' t i v
+  heard_by r r' t i v it h = record {
     round = it.round;
     sender = it.sender;
     message = it.message;
-    in_time = omega (arith, it.in_time);
+    in_time = h;
     a_seat = it.a_seat;
     arrived = it.arrived;
     on_day = it.on_day;
   }
+
+  later : (r r' t i v : ℕ) → r ≤ r' → Heard r t i v → Heard r' t i v
+  later r r' t i v h it = heard_by r r' t i v it (omega (arith, it.in_time))
 
   heard_named : (r t i v : ℕ) → Heard (suc r) t i v → Heard r t i v ⊎ Named (days_in r t i) v
   heard_named r t i v it = go (cases_eq it.round r)
@@ -107,16 +111,7 @@ module _ (k : ℕ) (tr : Trace) where
             entry_of k t (tr.inbox (suc r) i) it.sender it.a_seat
                 ∙ ap slot_day (ap (λ n. hears P k tr n t it.sender i) (sym at) ∙ it.arrived) ∙ ap Some it.on_day,
           )
-      go (inr off) =
-          inl (record {
-            round = it.round;
-            sender = it.sender;
-            message = it.message;
-            in_time = omega (arith, it.in_time);
-            a_seat = it.a_seat;
-            arrived = it.arrived;
-            on_day = it.on_day;
-          })
+      go (inr off) = inl (heard_by (suc r) r t i v it (omega (arith, it.in_time)))
 
   module _ (few : k ≤ 4) where
     -- a seat has seen just what it has heard
@@ -141,7 +136,7 @@ module _ (k : ℕ) (tr : Trace) where
         go (inl b) =
             let h : t < k = omega (arith, ltb-true t (state P k tr r i).seats b, its_seats r i) in
             (h, only_seen (Heard r t i) (seen_under (state P k tr r i) t) v (sees r t i h) (let one : only_day (seen_under (state P k tr r i) t) ≡ Some v = cc in one))
-        go (inr b) = absurd (let z : ◌≡◌ {A = ℕ} 0 1 = cc in omega arith)
+        go (inr b) = absurd (cc)
 
     -- in round 1 a seat says its input; later what it has heard
     pub says_input_or_heard : (r t i : ℕ) (m : Message) → says P k tr r t i ≡ Some m

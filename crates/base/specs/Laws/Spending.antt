@@ -1,7 +1,8 @@
 -- Relays stay within the bound: a copy has one signature in round 1, and two in round 2.
-use Rattle.std.specs.Prelude.{◌≡◌, ℕ, zero, suc, ◌*◌, ◌<◌, ◌≤◌, Bool, true, false, cond, Some, None, Option, refl}
+use Rattle.std.specs.Prelude.{◌≡◌, ℕ, zero, suc, ◌*◌, ◌<◌, ◌≤◌, Bool, cond, Some, None, Option, refl}
 use Rattle.std.proofs.Common.{sym, ◌∙◌, ap, inl, inr, mul-le-mul_left, mul-le-mul_right}
 use native.Mathlib.Omega.{arith}
+use Rattle.std.proofs.lemmas.Bool.Decides.{nat_tests}
 use Rattle.message.specs.declared.Message.{Message}
 use Rattle.message.specs.Count.{sum}
 use Rattle.message.specs.Members.{member, size}
@@ -73,8 +74,7 @@ module _ (k : ℕ) (few : k ≤ 4) (tr : Trace) where
       )
 
   honest_part : (b : Bool) (x c : ℕ) → x ≤ c → cond b 0 x ≤ c
-  honest_part true x c h = omega arith
-  honest_part false x c h = h
+  honest_part b x c h = grind (arith, nat_tests)
 
   by_all : (r : ℕ) → spent_in P k tr r ≤ k * (4 * (k * suc r))
   by_all r =

@@ -1,17 +1,13 @@
-use Rattle.std.proofs.Common.{None, fold, sym, ap, ◌∙◌, subst}
-use Rattle.std.proofs.lemmas.List.{take_all}
-use Rattle.std.proofs.lemmas.List.Sums.{fold_more}
-use Rattle.base.specs.Relaying.{leader, MostNamed}
+-- The fold is the definition, which means that.
+use Rattle.std.proofs.Common.{rules, None, ◌≡◌, sym, subst}
+use Rattle.std.proofs.lemmas.Iterator.{YieldsList-from_slice}
+use Rattle.std.proofs.lemmas.Iterator.Consumers.{fold_from_yields_List}
+use Rattle.base.specs.Relaying.{leader, most_named, MostNamed}
 use Rattle.base.specs.Laws.Leading.{most_named_means}
 use Rattle.base.proofs.most.most_named.Goals as goal
-
-pub loop-x-preserved : goal.loop-x-preserved
-loop-x-preserved c =
-    let more = fold_more (leader c.args.entries.now) None c.args.entries.now c.loop-x.x-index None c.loop-x-test.true in
-    cc
 
 pub returns : goal.returns
 returns c =
     let entries = c.args.entries.now in
-    let is = c.loop-x.invariant ∙ ap (fold (leader entries) None) (take_all c.loop-x.x-index entries c.loop-x-test.false) in
+    let is : c.fold.result ≡ most_named entries = fold_from_yields_List _ (leader entries) None c.fold.result c.fold.ensures.ran (YieldsList-from_slice entries (cc)) (λ a x b q k. search rules) in
     record { is = is; means = subst (MostNamed entries) (sym is) (most_named_means entries) }
