@@ -22,9 +22,8 @@ fn graded_agreement(rt: &HostRuntime) -> io::Result<()> {
     telling::opening(rt)?;
     for round in 1..=4 {
         rounds::speech(rt, round, &honest)?;
-        // five parties under two topics
         let before = honest;
-        rounds::hear::<_, 10>(&before, &mut honest, round);
+        rounds::hear::<_, { parties::SLOTS }>(&before, &mut honest, round);
         telling::beliefs(rt, round, &honest)?;
     }
     Ok(())
@@ -35,9 +34,8 @@ fn base_agreement(rt: &HostRuntime) -> io::Result<()> {
     relay_telling::opening(rt)?;
     for round in 1..=2 {
         rounds::speech(rt, round, &honest)?;
-        // four seats under four topics
         let before = honest;
-        rounds::hear::<_, 16>(&before, &mut honest, round);
+        rounds::hear::<_, { relaying::SLOTS }>(&before, &mut honest, round);
         relay_telling::seen(rt, &honest)?;
     }
     relay_telling::answers(rt, &honest)

@@ -14,6 +14,9 @@ use protocol::Spot;
 // The parties with the one that lies.
 pub const PARTIES: u32 = 5;
 
+// What reaches each: a slot for each party under each of two topics.
+pub const SLOTS: usize = 5 * 2;
+
 pub const INPUTS: [Day; 4] = [7, 7, 9, 4];
 
 // An honest party. It is one of at most 32, as many as a set of signers has room for.

@@ -14,6 +14,9 @@ use protocol::{Seating, Spot};
 // The seats with the one that lies.
 const SEATS: u32 = 4;
 
+// What reaches each: a slot for each seat under each of four topics.
+pub const SLOTS: usize = 4 * 4;
+
 // The honest seats' inputs.
 pub const INPUTS: [Day; 3] = [7, 9, 9];
 

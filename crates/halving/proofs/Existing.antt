@@ -130,7 +130,7 @@ module _ (corrupt : ℕ → ℕ → Bool) (grows : OnlyGrows corrupt) where
       where
         speaks : (j : ℕ) (b : Bool) → corrupt (suc (t + g.protocol.rounds s + half_time)) (half_lo + j) ≡ b → j < half_size
             → cond b None (Some (half.after (half_lo + j))) ≡ Some v → Day v
-        speaks j true is hj e = absurd (let z : ◌≡◌ {A = ℕ} 0 1 = cc in omega arith)
+        speaks j true is hj e = absurd (cc)
         speaks j false is hj e =
             let same : half.after (half_lo + j) ≡ v = cc in
             subst Day same (half.days j hj (was_honest corrupt grows (t + g.protocol.rounds s + half_time) (suc (t + g.protocol.rounds s + half_time)) (half_lo + j) (omega arith) is))
@@ -144,7 +144,7 @@ module _ (corrupt : ℕ → ℕ → Bool) (grows : OnlyGrows corrupt) where
             side (inr out) =
                 let none = get_or_past reports found.0 None (omega (arith, reports_length)) in
                 let some = found.1 in
-                absurd (let z : ◌≡◌ {A = ℕ} 0 1 = cc in omega arith)
+                absurd (cc)
 
     after_days : HoldDays corrupt (t + turn_time g s half_time) lo s after
     after_days i hi good = go (cases_Bool (grade_of g s (trace corrupt run) i))

@@ -154,24 +154,23 @@ count_both f n i j hi hj off fi fj =
     apart : (s : ℕ) → (eqb s i && eqb s j) ≡ false
     apart s = grind arith
 
--- n values of at most b each
-pub sum_bound : (f : ℕ → ℕ) (b n : ℕ) → ((i : ℕ) → i < n → f i ≤ b) → sum f n ≤ n * b
+pub sum_mono : (f g : ℕ → ℕ) (n : ℕ) → ((i : ℕ) → i < n → f i ≤ g i) → sum f n ≤ sum g n
 unfolding sum
-sum_bound f b zero h = omega arith
-sum_bound f b (suc n) h =
-    let ih = sum_bound f b n (λ i l. h i (omega arith)) in
+sum_mono f g zero h = omega arith
+sum_mono f g (suc n) h =
+    let ih = sum_mono f g n (λ i l. h i (omega arith)) in
     let k = h n (omega arith) in
     omega arith
 
 pub sum_same : (f g : ℕ → ℕ) (n : ℕ) → ((i : ℕ) → i < n → f i ≡ g i) → sum f n ≡ sum g n
-unfolding sum
-sum_same f g zero each = refl
-sum_same f g (suc n) each =
-    let rest = sum_same f g n (λ i below. each i (omega arith)) in
-    let last = each n (omega arith) in
-    omega (arith, rest, last)
+sum_same f g n each =
+    omega (arith, sum_mono f g n (λ i h. omega (arith, each i h)), sum_mono g f n (λ i h. omega (arith, each i h)))
 
 pub sum_constant : (x n : ℕ) → sum (λ _. x) n ≡ n * x
 unfolding sum
 sum_constant x zero = omega arith
 sum_constant x (suc n) = let rest = sum_constant x n in omega (arith, rest)
+
+-- n values of at most b each
+pub sum_bound : (f : ℕ → ℕ) (b n : ℕ) → ((i : ℕ) → i < n → f i ≤ b) → sum f n ≤ n * b
+sum_bound f b n h = omega (arith, sum_mono f (λ _. b) n h, sum_constant b n)

@@ -150,7 +150,7 @@ lowest_least : (ok : ℕ → Bool) (days : List (Option ℕ)) → Least ok days 
 unfolding lowest
 lowest_least ok [] = grind arith
 lowest_least ok (None ∷ days) =
-    least_skip ok None days (λ u e. absurd (let z : ◌≡◌ {A = ℕ} 0 1 = cc in omega arith)) (lowest ok days) (lowest_least ok days)
+    least_skip ok None days (λ u e. absurd (cc)) (lowest ok days) (lowest_least ok days)
 lowest_least ok (Some x ∷ days) = let ih = lowest_least ok days in grind (arith, least_skip, least_take)
 
 -- ---- the day that reaches a mark
