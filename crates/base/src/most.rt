@@ -2,8 +2,8 @@
 ghost use Rattle.std.specs.Prelude.{◌≡◌};
 ghost use Rattle.base.specs.Relaying.{ahead, leader, most_named, MostNamed};
 
-use message::Day;
 use message::entries::count;
+use message::{Day, before};
 
 // Whether more entries name day u than day v, or as many, and u comes before v.
 fn is_ahead(entries: &[Option<Day>], u: Day, v: Day) -> bool
@@ -11,7 +11,7 @@ fn is_ahead(entries: &[Option<Day>], u: Day, v: Day) -> bool
 {
     let of_u = count(entries, u);
     let of_v = count(entries, v);
-    of_v < of_u || of_v == of_u && u < v
+    of_v < of_u || of_v == of_u && before(u, v)
 }
 
 // Of two days, where there are two, the second if it is ahead.

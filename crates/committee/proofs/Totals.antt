@@ -1,15 +1,10 @@
 -- How many rounds and signatures a committee of so many parties takes, from what its halves take.
 use Rattle.std.proofs.Common.{◌≡◌, ℕ, suc, ◌+◌, ◌-◌, ◌*◌, ◌/◌, ◌<◌, ◌≤◌, ◌⊎◌, ap, ◌∙◌, inl, inr, arith}
 use Rattle.committee.specs.declared.sizes.Sizes.{Sizes}
-use Rattle.committee.specs.declared.stages.Committee.{Committee}
 use Rattle.committee.specs.Tree.{first_half, second_half, committees, bound}
 use Rattle.committee.specs.Plan.{duration}
 use Rattle.committee.specs.Numbers.{base_rounds, graded_rounds, total_of}
 use Rattle.committee.proofs.Trees.{lasts_small, lasts_large, lasts_alike, bound_large, bound_alike}
-
--- what a plan of the same numbers and the same committee takes
-pub alike : {X : Type 0} (f : Sizes → Committee → X) {z z' : Sizes} {c c' : Committee} → (z ≡ z') × (c ≡ c') → f z c ≡ f z' c'
-alike f {z' = z'} {c = c} same = ap (λ z. f z c) same.0 ∙ ap (f z') same.1
 
 module _ (z : Sizes) where
   pub lasts : (lo s : ℕ) → duration (base_rounds z) (graded_rounds z) (committees z.most lo s) ≡ total_of z s

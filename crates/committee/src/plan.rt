@@ -1,9 +1,9 @@
 // A committee's plan: how many rounds it has, how many signatures are sent in them, and the stage of each, found by going down through the
 // halves.
-ghost use Rattle.std.specs.Prelude.{◌≡◌, ◌+◌, ◌*◌, ◌<◌, ◌≤◌};
+ghost use Rattle.std.specs.Prelude.{◌≡◌, ◌+◌, ◌*◌, ◌<◌, ◌≤◌, Some};
 ghost use Rattle.std.specs.List.{slice_get};
 ghost use Rattle.committee.specs.Tree.{committees, bound as bound_of};
-ghost use Rattle.committee.specs.Numbers.{total_of, plan_of, turn_of, everybody, first_half_of, second_half_of, Parties, Fits};
+ghost use Rattle.committee.specs.Numbers.{total_of, plan_of, turn_of, everybody, Parties, Fits};
 
 use crate::sizes::Sizes;
 use crate::stages::{Committee, Part, Stage};
@@ -22,6 +22,8 @@ struct Turn {
     half: Plan,
     graded: Part,
     report: Part,
+    // the rounds of the half's own work, between the graded agreement and the report
+    rounds: u32,
     closed: u32,
 }
 
@@ -45,16 +47,7 @@ impl Plan {
         ensures is { result ≡ total_of self.now.sizes self.now.committee.size }
         ensures few { result + 10 ≤ 26 * self.now.committee.size }
     {
-        let Sizes {
-            most,
-            rounds,
-            graded,
-        } = self.sizes;
-        if self.committee.size <= most {
-            return rounds[self.committee.size as usize - 1];
-        }
-        let (first, second) = self.halves();
-        2 * (graded + 1) + (first.total() + second.total())
+        self.sizes.total(self.committee.size)
     }
 
     // The most signatures that the committee sends.
@@ -62,105 +55,98 @@ impl Plan {
         ensures is { result ≡ bound_of (committees self.now.sizes.most 0 self.now.committee.size) }
         ensures few { result + 11 ≤ 22 * (self.now.committee.size * self.now.committee.size) }
     {
-        let square = self.committee.size * self.committee.size;
-        if self.committee.size <= self.sizes.most {
-            return 22 * square - 11;
-        }
-        let (first, second) = self.halves();
-        11 * square + (first.bound() + second.bound())
+        self.sizes.bound(self.committee.size)
     }
 
     // The stage that is open when so many of its rounds have closed; none after the last.
     pub fn stage(&self, closed: u32) -> Option<Stage>
         ensures { result ≡ slice_get (plan_of self.now.sizes self.now.committee) closed }
     {
-        if self.committee.size <= self.sizes.most {
-            return self.base_stage(closed);
+        if closed < self.total() {
+            Some(self.find(closed))
+        } else {
+            None
         }
+    }
+
+    // The same where it is not over, by going down into the half in whose turn the round lies.
+    fn find(&self, closed: u32) -> Stage
+        requires { closed < total_of self.now.sizes self.now.committee.size }
+        ensures { slice_get (plan_of self.now.sizes self.now.committee) closed ≡ Some result }
+    {
         let committee = self.committee;
+        if committee.size <= self.sizes.most {
+            return Stage {
+                committee,
+                half: committee,
+                part: Part::Base,
+                round: closed + 1,
+            };
+        }
         let Turn {
             half,
             graded,
             report,
+            rounds,
             closed,
         } = self.turn(closed);
         if closed < self.sizes.graded {
-            return Some(Stage {
+            return Stage {
                 committee,
                 half: half.committee,
                 part: graded,
                 round: closed + 1,
-            });
+            };
         }
-        if closed == self.sizes.graded + half.total() {
-            return Some(Stage {
-                committee,
-                half: half.committee,
-                part: report,
-                round: 1,
-            });
+        let own = closed - self.sizes.graded;
+        if own < rounds {
+            return half.find(own);
         }
-        half.stage(closed - self.sizes.graded)
-    }
-
-    // The same in a small committee, whose rounds are the base agreement's.
-    fn base_stage(&self, closed: u32) -> Option<Stage>
-        requires { self.now.committee.size ≤ self.now.sizes.most }
-        ensures { result ≡ slice_get (plan_of self.now.sizes self.now.committee) closed }
-    {
-        let committee = self.committee;
-        (closed < self.total()).then(|| Stage {
+        Stage {
             committee,
-            half: committee,
-            part: Part::Base,
-            round: closed + 1,
-        })
+            half: half.committee,
+            part: report,
+            round: 1,
+        }
     }
 
     // The turn in which a round of a larger committee lies.
     fn turn(&self, closed: u32) -> Turn
-        requires { self.now.sizes.most < self.now.committee.size }
+        requires larger { self.now.sizes.most < self.now.committee.size }
+        requires within { closed < total_of self.now.sizes self.now.committee.size }
         ensures smaller { result.half.committee.size < self.now.committee.size }
         ensures same { result.half.sizes ≡ self.now.sizes }
+        ensures own { result.rounds ≡ total_of self.now.sizes result.half.committee.size }
+        ensures within { result.closed ≤ self.now.sizes.graded + result.rounds }
         ensures is { slice_get (plan_of self.now.sizes self.now.committee) closed
             ≡ slice_get (turn_of self.now.sizes self.now.committee result.half.committee result.graded result.report) result.closed }
     {
-        let (first, second) = self.halves();
-        let rounds = self.sizes.graded + first.total() + 1;
-        if closed < rounds {
+        let sizes = self.sizes;
+        let first = self.committee.first_half();
+        let rounds = sizes.total(first.size);
+        let length = sizes.graded + rounds + 1;
+        if closed < length {
             return Turn {
-                half: first,
+                half: Plan {
+                    sizes,
+                    committee: first,
+                },
                 graded: Part::FirstGraded,
                 report: Part::FirstReport,
+                rounds,
                 closed,
             };
         }
-        Turn {
-            half: second,
-            graded: Part::SecondGraded,
-            report: Part::SecondReport,
-            closed: closed - rounds,
-        }
-    }
-
-    // The plans of the half that works first and of the half that works second.
-    fn halves(&self) -> (Plan, Plan)
-        requires { self.now.sizes.most < self.now.committee.size }
-        ensures first { (result.0.sizes ≡ self.now.sizes) × (result.0.committee ≡ first_half_of self.now.committee) }
-        ensures second { (result.1.sizes ≡ self.now.sizes) × (result.1.committee ≡ second_half_of self.now.committee) }
-    {
-        let sizes = self.sizes;
-        let first = self.committee.first_half();
         let second = self.committee.second_half();
-        (
-            Plan {
-                sizes,
-                committee: first,
-            },
-            Plan {
+        Turn {
+            half: Plan {
                 sizes,
                 committee: second,
             },
-        )
+            graded: Part::SecondGraded,
+            report: Part::SecondReport,
+            rounds: sizes.total(second.size),
+            closed: closed - length,
+        }
     }
 }

@@ -98,7 +98,7 @@ one_of_them k F few named whole v e =
     (s.0, s.1, names_is v (entry named s.0) s.2, s.3)
 
 -- what all seats outside a minority name, a quorum names
-all_of_them : (k : ℕ) (F : ℕ → Bool) → 2 * count F k < k → (named : List (Option ℕ)) → length named ≡ k
+pub all_of_them : (k : ℕ) (F : ℕ → Bool) → 2 * count F k < k → (named : List (Option ℕ)) → length named ≡ k
     → (v : ℕ) → ((s : ℕ) → s < k → F s ≡ false → entry named s ≡ Some v) → reaching (quorum k) named ≡ Some v
 all_of_them k F few named whole v all =
     reaching_only named k (omega arith) v

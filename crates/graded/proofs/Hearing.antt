@@ -46,23 +46,23 @@ module _ (k : ℕ) (tr : Trace) where
   vote = voted k F tr.input echoes shown votes proofs again
 
   -- what a seat says in each round
-  says_1 : (j : ℕ) → says P k tr 0 0 j ≡ word j (Some (tr.input j))
+  pub says_1 : (j : ℕ) → says P k tr 0 0 j ≡ word j (Some (tr.input j))
   unfolding state
   says_1 j = refl
 
-  says_2 : (j : ℕ) → says P k tr 1 0 j ≡ certificate k (echoes j)
+  pub says_2 : (j : ℕ) → says P k tr 1 0 j ≡ certificate k (echoes j)
   unfolding state
   says_2 j = refl
 
-  says_3 : (j : ℕ) → says P k tr 2 0 j ≡ word j (unless_disputed (shown j) (slot_day (certificate k (echoes j))))
+  pub says_3 : (j : ℕ) → says P k tr 2 0 j ≡ word j (unless_disputed (shown j) (slot_day (certificate k (echoes j))))
   unfolding state
   says_3 j = refl
 
-  says_4 : (j : ℕ) → says P k tr 3 0 j ≡ certificate k (votes j)
+  pub says_4 : (j : ℕ) → says P k tr 3 0 j ≡ certificate k (votes j)
   unfolding state
   says_4 j = refl
 
-  says_5 : (j : ℕ) → says P k tr 3 1 j ≡ word j (slot_day (certificate k (votes j)))
+  pub says_5 : (j : ℕ) → says P k tr 3 1 j ≡ word j (slot_day (certificate k (votes j)))
   unfolding state
   says_5 j = refl
 

@@ -9,7 +9,7 @@ pub below_suc : (P : ℕ → Type 0) (n : ℕ) → ((i : ℕ) → i < n → P i)
 below_suc P n below here i h = grind arith
 
 -- a test is passed somewhere below n, or fails everywhere there
-somewhere : (f : ℕ → Bool) (n : ℕ) → ((i : ℕ) × (i < n) × (f i ≡ true)) ⊎ ((i : ℕ) → i < n → f i ≡ false)
+pub somewhere : (f : ℕ → Bool) (n : ℕ) → ((i : ℕ) × (i < n) × (f i ≡ true)) ⊎ ((i : ℕ) → i < n → f i ≡ false)
 somewhere f zero = grind arith
 somewhere f (suc n) =
     ⊎_elim (λ e. inl (n, omega arith, e))

@@ -1,3 +1,4 @@
 pub mod Counting
 pub mod Masks
+pub mod Numbering
 pub mod Tallying

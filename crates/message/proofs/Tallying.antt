@@ -1,5 +1,5 @@
 -- What is read off a tally: who has enough entries, who alone can have them, and which day is the lowest.
-use Rattle.std.proofs.Common.{◌≡◌, ℕ, zero, suc, ◌+◌, ◌-◌, ◌<◌, ◌≤◌, Bool, true, false, cond, eqb, ◌⊎◌, List, [], ◌∷◌, min, map, length, Some, None, Option, sym, refl, ap, ◌∙◌, subst, inl, inr, arith}
+use Rattle.std.proofs.Common.{◌≡◌, ℕ, zero, suc, ◌+◌, ◌-◌, ◌<◌, ◌≤◌, Bool, true, false, cond, eqb, ◌⊎◌, List, [], ◌∷◌, min, map, length, Some, None, Option, fold, sym, refl, ap, ◌∙◌, subst, inl, inr, arith}
 use Rattle.std.proofs.lemmas.List.{get_or_past}
 use Rattle.std.proofs.lemmas.Bool.{cases_Bool, cases_lt, both_ways, eqb-true, eqb-false, not-true, not-false}
 use Rattle.std.specs.List.{count_by, list_any, filter, filter_map, cons_option, reduce}
@@ -111,6 +111,27 @@ least_front u (v ∷ us) =
     least_front (min u v) us ∙ ap (λ o. earlier o (reduce min us)) (sym (earlier_is u v))
     ∙ earlier_assoc (Some u) (Some v) (reduce min us) ∙ ap (earlier (Some u)) (sym (least_front v us))
 
+-- the order in which days are set beside one another makes no difference
+earlier_turn : (a b c : Option ℕ) → earlier (earlier a b) c ≡ earlier b (earlier a c)
+earlier_turn None b c = refl
+earlier_turn (Some u) None c = refl
+earlier_turn (Some u) (Some v) None = ap Some (grind arith)
+earlier_turn (Some u) (Some v) (Some w) = ap Some (grind arith)
+
+-- the earlier of a first day and of each further one in turn is the least of them all
+earliest_from : (o : Option ℕ) (us : List ℕ) → fold (λ best u. earlier (Some u) best) o us ≡ earlier (reduce min us) o
+earliest_from o [] = refl
+earliest_from o (u ∷ us) =
+    earliest_from (earlier (Some u) o) us ∙ sym (earlier_turn (Some u) (reduce min us) o)
+    ∙ ap (λ least. earlier least o) (sym (least_front u us))
+
+none_later : (o : Option ℕ) → earlier o None ≡ o
+none_later None = refl
+none_later (Some u) = refl
+
+pub earliest_is_least : (us : List ℕ) → fold (λ best u. earlier (Some u) best) None us ≡ reduce min us
+earliest_is_least us = earliest_from None us ∙ none_later (reduce min us)
+
 -- the least of the days that are named and pass a test is the lowest such day
 pub lowest_is_least :
     {X : Type 0} (f : X → Option ℕ) (ok : ℕ → Bool) (xs : List X) → reduce min (filter ok (filter_map f xs)) ≡ lowest ok (map f xs)
@@ -166,6 +187,15 @@ reaching_means mark days = go (lowest (reaches mark days) days) (lowest_least (r
     go None least = grind (arith, cases_lt, named_somewhere, enough)
     go (Some v) least = grind (arith, cases_lt, named_somewhere, enough)
 
+-- no day reaches a mark of 0
+pub reaching_nought : (days : List (Option ℕ)) → reaching 0 days ≡ None
+unfolding reaching
+reaching_nought days = go (lowest (reaches 0 days) days) (lowest_least (reaches 0 days) days)
+  where
+    go : (o : Option ℕ) → Least (reaches 0 days) days o → o ≡ None
+    go None least = refl
+    go (Some v) least = grind arith
+
 pub reaching_has : (mark : ℕ) (days : List (Option ℕ)) (v : ℕ) → reaching mark days ≡ Some v → mark ≤ tally days v
 reaching_has mark days v e = (subst (LowestReaching mark days) e (reaching_means mark days)).1
 
@@ -176,7 +206,7 @@ reaching_is :
 reaching_is mark days v some h only = grind (arith, reaching_means, reaching_has)
 
 -- two days with a quorum are one
-quorums_meet :
+pub quorums_meet :
     (days : List (Option ℕ)) (k u v : ℕ) → length days ≤ k → quorum k ≤ tally days u → quorum k ≤ tally days v → u ≡ v
 quorums_meet days k u v h hu hv =
     let both =

@@ -1,9 +1,9 @@
 // Entries that may name a day: one count, and what is read off it.
 ghost use Rattle.std.specs.Prelude.{◌≡◌, ℕ, ◌≤◌, map, length, Option};
 ghost use Rattle.message.specs.Members.{gathered, most_parties};
-ghost use Rattle.message.specs.Tally.{slot_day, names, entry as entry_at, tally, reaching as lowest_reaching, LowestReaching, TellsDispute};
+ghost use Rattle.message.specs.Tally.{slot_day, names, entry as entry_at, tally, earlier, reaching as lowest_reaching, LowestReaching, TellsDispute};
 
-use crate::{Day, Message, Signers};
+use crate::{Day, Message, Signers, before};
 
 // Something that may name a day: a slot of a wire, or an entry of a base agreement.
 pub trait NamesDay {
@@ -25,7 +25,7 @@ impl NamesDay for Option<Message> {
     ghost named = { slot_day };
 
     fn day(&self) -> Option<Day> {
-        self.map(|message| message.day)
+        self.as_ref().map(|message| message.day)
     }
 }
 
@@ -33,7 +33,21 @@ impl NamesDay for Option<Message> {
 pub fn count<T: NamesDay>(entries: &[T], day: Day) -> usize
     ensures { result ≡ tally (map T.named entries.now) day }
 {
-    entries.iter().filter(|x| x.day() == Some(day)).count()
+    entries
+        .iter()
+        .map(|x| usize::from(x.day() == Some(day)))
+        .sum()
+}
+
+// The earlier of two days, where there are two.
+fn earlier_of(a: Option<Day>, b: Option<Day>) -> Option<Day>
+    ensures { result ≡ earlier a b }
+{
+    match (a, b) {
+        (Some(u), Some(v)) => if before(v, u) { b } else { a },
+        (Some(_), None) => a,
+        (None, _) => b,
+    }
 }
 
 // The lowest day that at least `mark` entries name, if there is one; no day reaches a mark of 0. Whoever looks for a quorum looks here.
@@ -41,11 +55,14 @@ pub fn reaching<T: NamesDay>(entries: &[T], mark: usize) -> Option<Day>
     ensures is { result ≡ lowest_reaching mark (map T.named entries.now) }
     ensures means { LowestReaching mark (map T.named entries.now) result }
 {
+    if mark == 0 {
+        return None;
+    }
     entries
         .iter()
         .filter_map(|x| x.day())
-        .filter(|day| mark > 0 && count(entries, *day) >= mark)
-        .min()
+        .filter(|day| count(entries, *day) >= mark)
+        .fold(None, |best, day| earlier_of(Some(day), best))
 }
 
 // Whether some entry names another day.

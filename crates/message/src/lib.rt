@@ -1,6 +1,9 @@
 // Days, sets of signers and messages: the words that every layer above speaks in.
 #![tactic(auto)]
 
+ghost use Rattle.std.specs.Prelude.{◌≡◌};
+ghost use Rattle.message.specs.Tally.{before as comes_before};
+
 pub mod entries;
 pub mod refusals;
 pub mod sets;
@@ -22,4 +25,11 @@ pub struct Signers {
 pub struct Message {
     pub day: Day,
     pub signers: Signers,
+}
+
+// Whether day u comes before day v: the one order by which lowest days are chosen.
+pub fn before(u: Day, v: Day) -> bool
+    ensures { result ≡ comes_before u v }
+{
+    u < v
 }

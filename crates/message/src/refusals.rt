@@ -1,12 +1,13 @@
 // Why a call or a script is refused, and which layer says so.
-ghost use Rattle.std.specs.Prelude.{◌≡◌, Some};
+ghost use Rattle.std.specs.Prelude.{◌≡◌, Some, ◌==◌};
+ghost use Rattle.std.specs.Cmp.{on_per, partial_equiv_from_equiv, nat_eq_equiv};
 ghost use Rattle.message.specs.Table.{number_of, word_of};
 ghost use Rattle.message.specs.declared.refusals.Layer.TheVariants.{Execution};
 
 use std::fmt;
 
 // A rule that a call or a script breaks. The numbers are those that callers and scripts are answered with.
-#[derive(Clone, Copy, Debug, PartialEq, Eq)]
+#[derive(Clone, Copy, Debug, Eq)]
 pub enum Refusal {
     PartiesOutOfRange = 1,
     LimitAboveParties = 2,
@@ -35,6 +36,17 @@ impl From<Refusal> for u8 {
 
     fn from(refusal: Refusal) -> u8 {
         refusal as u8
+    }
+}
+
+// Refusals are the same if their numbers are.
+impl PartialEq for Refusal {
+    ghost eq = { λ x y. (number_of x == number_of y) };
+
+    ghost laws = { on_per number_of (partial_equiv_from_equiv nat_eq_equiv) };
+
+    fn eq(&self, other: &Refusal) -> bool {
+        u8::from(*self) == u8::from(*other)
     }
 }
 

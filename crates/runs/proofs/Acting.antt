@@ -29,10 +29,10 @@ module _ {st : Stage} {t i j : ℕ} (at : Place st t i j) where
   slot_row : x / s ≡ t * s + i
   slot_row = div-mul-add (t * st.committee.size + i) st.committee.size j at.receiver
 
-  slot_topic : topic_of s x ≡ t
+  pub slot_topic : topic_of s x ≡ t
   slot_topic = ap (λ n. n / st.committee.size) slot_row ∙ div-mul-add t st.committee.size i at.sender
 
-  slot_sender : sender_of s x ≡ i
+  pub slot_sender : sender_of s x ≡ i
   slot_sender = ap (λ n. n % st.committee.size) slot_row ∙ mod-mul-add t st.committee.size i at.sender
 
   pub slot_used : x < used st

@@ -14,7 +14,7 @@ use Rattle.runs.specs.State.{State, room, here, nobody}
 use Rattle.runs.specs.Round.{party_of, seat_of, says_in, kind_in}
 use Rattle.runs.specs.Wire.{Slots, stands, to_parties}
 use Rattle.runs.specs.Calls.{message, Call, injects, Exists, Applies, bad_signers, sender_honest, not_seated, no_form, no_signature}
-use Rattle.runs.specs.Rules.{Answer, GoesOn, Corrupted, Injected, Does, corrupted, injected, closed, decision, signatures, closings, refuses, accepts}
+use Rattle.runs.specs.Rules.{Opens, Answer, GoesOn, Corrupted, Injected, Does, corrupted, injected, closed, decision, signatures, closings, refuses, accepts}
 use Rattle.runs.specs.History.{seated, opened, History, begins, goes_on}
 use Rattle.runs.specs.Fair.{Injectable, Fair}
 use Rattle.runs.proofs.Acting.{opens}
@@ -88,9 +88,13 @@ module _ {B G : Type 0} (a : Meaning B) (g : Grading G) where
       → (st : Stage) → here a g new ≡ Some st → Fair a g st new
   fair_still st' s new now same fair st e = subst (λ x. Fair a g x new) (same_Some st' st (sym (same ∙ now) ∙ e)) fair
 
-  -- a round opens fair
+  -- a round opens fair,
+  fair_opening : (st : Stage) (old new : State B G) → Opens a g st old new → Fair a g st new
+  fair_opening st old new on = grind arith
+
+  -- and so does the next
   fair_going_on : (o : Option Stage) (s new : State B G) → here a g s ≡ o → GoesOn a g o s new → (st : Stage) → here a g new ≡ Some st → Fair a g st new
-  fair_going_on o s new over on = grind arith
+  fair_going_on o s new over on = grind (arith, fair_opening)
 
   module _ (sized : Sized a) where
     fair_doing : {s new : State B G} {c : Call} {x : Answer} → ((k : ℕ) → Applies a g s c k → ⊥) → Does a g s c x new

@@ -19,14 +19,14 @@ module _ (P : ℕ → Type 0) where
   marked_above (row h _ rows) k (later on) = let more = marked_above rows k on in omega (arith, h, more)
 
   -- the number that the checks give applies,
-  first_applies : {lo : ℕ} {cs : List (Bool × ℕ)} → Rows P lo cs → (k : ℕ) → first_of cs ≡ Some k → P k
+  pub first_applies : {lo : ℕ} {cs : List (Bool × ℕ)} → Rows P lo cs → (k : ℕ) → first_of cs ≡ Some k → P k
   unfolding first_of
   first_applies end k e = cc
   first_applies (row {k = n} {b = true} h applies rows) k e = grind arith
   first_applies (row {b = false} h applies rows) k e = first_applies rows k e
 
   -- and none below it is marked
-  first_least : {lo : ℕ} {cs : List (Bool × ℕ)} → Rows P lo cs → (k : ℕ) → first_of cs ≡ Some k → (k' : ℕ) → Marked k' cs → k ≤ k'
+  pub first_least : {lo : ℕ} {cs : List (Bool × ℕ)} → Rows P lo cs → (k : ℕ) → first_of cs ≡ Some k → (k' : ℕ) → Marked k' cs → k ≤ k'
   unfolding first_of
   first_least end k e k' on = elim on [ ]
   first_least (row {k = n} {b = true} h _ rows) k e k' (this _) = grind arith

@@ -98,7 +98,7 @@ module _ (k : ℕ) (tr : Trace) where
     on_day = it.on_day;
   }
 
-  later : (r r' t i v : ℕ) → r ≤ r' → Heard r t i v → Heard r' t i v
+  pub later : (r r' t i v : ℕ) → r ≤ r' → Heard r t i v → Heard r' t i v
   later r r' t i v h it = heard_by r r' t i v it (omega (arith, it.in_time))
 
   heard_named : (r t i v : ℕ) → Heard (suc r) t i v → Heard r t i v ⊎ Named (days_in r t i) v
