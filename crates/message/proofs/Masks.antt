@@ -1,13 +1,13 @@
 -- Sets as numbers: who is a member of a set that is made from others, when two sets are one, and how large a set is.
-use Rattle.std.proofs.Common.{◌≡◌, ℕ, zero, suc, ◌+◌, ◌-◌, ◌*◌, ◌/◌, ◌%◌, ◌^◌, ◌<◌, ◌≤◌, Bool, true, false, cond, not, ◌&&◌, ◌||◌, eqb, ltb, leb, ◌≢◌, ◌⊎◌, sym, refl, ap, ◌∙◌, subst, inl, inr, ⊎_elim, add-zero, mul_assoc, add_comm, pow-suc, zero-add, div-one, one-add, arith}
+use Rattle.std.proofs.Common.{◌≡◌, ℕ, zero, suc, ◌+◌, ◌-◌, ◌*◌, ◌/◌, ◌%◌, ◌^◌, ◌<◌, ◌≤◌, Bool, true, false, cond, not, ◌&&◌, ◌||◌, eqb, ltb, leb, ◌≢◌, ◌⊎◌, sym, refl, ap, ◌∙◌, subst, inl, inr, ⊎_elim, add-zero, mul_assoc, add_comm, pow-suc, zero-add, div-one, one-add, arith, mod-eq_of_lt}
 use native.Mathlib.Nat.{add-mul-div_right, add-div_right, div-eq_of_lt, sub-zero}
 use lib.Bits.{bit_and, bit_or, and_step, or_step}
 use lib.Count.{ones, ones_step}
 use lib.Pow.{ones_split}
-use Rattle.std.proofs.lemmas.Nat.{pow_pos, pow-add, pow_below, shl-shr, shr-shr, shr_split, shr_high, mod_below, and_mask, and_le_l, and_shr, or_shr}
+use Rattle.std.proofs.lemmas.Nat.{one_shl, pow_pos, pow-add, pow_below, shl-shr, shr-shr, shr_split, shr_high, mod_below, and_mask, and_le_l, and_shr, or_shr}
 use Rattle.std.proofs.lemmas.Bool.{cases_eq, cases_lt, cases_order, both_ways, eq-eqb, ne_eqb, eqb-true, eqb-false, lt-ltb, le-ltb, le-leb, lt-leb, and_parts}
 use Rattle.message.specs.Count.{count}
-use Rattle.message.specs.Members.{member, size, gathered, Holds, TellsSubset}
+use Rattle.message.specs.Members.{member, size, gathered, Holds, TellsSubset, width}
 use Rattle.message.proofs.Counting.{below_suc, count_same}
 
 -- ---- one member at a time, the lowest first
@@ -355,3 +355,17 @@ tells_subset k a b la lb false e =
   where
     left_out : (x y : Bool) → (x && not y) ≡ true → (x ≡ true) × (y ≡ false)
     left_out x y e = grind arith
+
+-- ---- a word's own operations, which drop what goes past its last bit
+
+-- one bit moved up within the word
+pub one_up : (j : ℕ) → j < width → 1 * 2 ^ j % 2 ^ width ≡ 2 ^ j
+one_up j h = one_shl j width h
+
+-- what has room in the word stays as it is
+pub kept_whole : (n : ℕ) → n < 2 ^ width → n % 2 ^ width ≡ n
+kept_whole n h = mod-eq_of_lt h
+
+-- no bit outside the other word is no member outside it
+pub subset_told : (a b : ℕ) → a < 2 ^ width → b < 2 ^ width → TellsSubset a b (eqb (bit_and a (2 ^ width - 1 - b)) 0)
+subset_told a b la lb = tells_subset width a b la lb _ refl

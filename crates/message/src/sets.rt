@@ -9,6 +9,7 @@ pub const MOST_PARTIES: u32 = Word::BITS;
 
 impl Signers {
     // Nobody.
+    #[tactic(auto, using(crate::proofs::Masks::member_none))]
     pub fn none() -> Signers
         ensures is { result.mask ≡ 0 }
         ensures members { Holds result.mask (λ _. false) }
@@ -17,6 +18,7 @@ impl Signers {
     }
 
     // One alone.
+    #[tactic(auto, using(crate::proofs::Masks::member_alone, crate::proofs::Masks::one_up))]
     pub fn only(seat: u32) -> Signers
         requires { seat < most_parties }
         ensures is { result.mask ≡ 2 ^ seat }
@@ -26,6 +28,7 @@ impl Signers {
     }
 
     // The first so many.
+    #[tactic(auto, using(crate::proofs::Masks::first_of, crate::proofs::Masks::member_first))]
     pub fn first(seats: u32) -> Signers
         requires { seats ≤ most_parties }
         ensures is { result.mask ≡ 2 ^ seats - 1 }
@@ -40,6 +43,7 @@ impl Signers {
     }
 
     // The set with one more member.
+    #[tactic(auto, using(crate::proofs::Masks::member_with, crate::proofs::Masks::one_up))]
     pub fn with(self, seat: u32) -> Signers
         requires { seat < most_parties }
         ensures { Holds result.mask (λ i. (i == seat) || member i self.mask) }
@@ -57,6 +61,7 @@ impl Signers {
     }
 
     // How many members there are.
+    #[tactic(auto, using(crate::proofs::Masks::size_ones))]
     pub fn len(self) -> u32
         ensures { (k : ℕ) → self.mask < 2 ^ k → result ≡ size k self.mask }
     {
@@ -64,6 +69,7 @@ impl Signers {
     }
 
     // Whether each member is a member of the other set.
+    #[tactic(auto, using(crate::proofs::Masks::subset_told))]
     pub fn is_subset(self, other: Signers) -> bool
         ensures { TellsSubset self.mask other.mask result }
     {
@@ -79,6 +85,7 @@ impl Signers {
     }
 
     // Seats of a committee as parties: seat i is party first + i.
+    #[tactic(auto, using(crate::proofs::Masks::member_moved, crate::proofs::Masks::kept_whole))]
     pub fn to_parties(self, first: u32) -> Signers
         requires begins { first < most_parties }
         requires fits { self.mask * 2 ^ first < 2 ^ most_parties }
@@ -91,6 +98,7 @@ impl Signers {
     }
 
     // Parties as seats of the committee that begins at party `first`; none if a member comes before it.
+    #[tactic(auto, using(crate::proofs::Masks::member_down, crate::proofs::Masks::some_below, crate::proofs::Masks::none_below))]
     pub fn to_seats(self, first: u32) -> Option<Signers>
         requires { first < most_parties }
         ensures { MatchOption result ((i : ℕ) × (i < first) × (member i self.mask ≡ true)) (λ seats. (self.mask ≡ seats.mask * 2 ^ first) × Holds seats.mask (λ i. member (first + i) self.mask)) }

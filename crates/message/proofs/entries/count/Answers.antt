@@ -18,6 +18,8 @@ sum-requires-clause-fits g c =
 pub returns : goal.returns
 returns g c =
     let xs = c.args.entries.now in
+    let added =
     sum_by_from_yields_List (λ x. cond (names c.args.day (g.T.NamesDay.named x)) 1 0) xs c.map.result c.sum.result c.sum.ensures.ran
     (YieldsList-from_map _ (λ x. cond (names c.args.day (g.T.NamesDay.named x)) 1 0) (YieldsList-at c.map.ensures.source (YieldsList-from_slice xs cc)) c.map.ensures.closure (λ x b q k. search rules))
-    ∙ tally_counts g.T.NamesDay.named c.args.day xs
+    ∙ tally_counts g.T.NamesDay.named c.args.day xs in
+    omega (arith, added)
